@@ -1,0 +1,42 @@
+// Arithmetic on frequencies and chances, without overflow.
+ghost use mathlib.Core.Path.{_≡_};
+ghost use Prim.Native.Nat.{_-_, _%_};
+ghost use Rattle.numeric.specs.Share.{shareOf, splitOf};
+
+// The frequencies of the two branches of a branching.
+pub struct Branches {
+    pub first: u64,
+    pub second: u64,
+}
+
+// frequency × chance / 1,000,000 rounded down, for every u64. The product is taken in two parts, so that neither wraps.
+pub fn share(frequency: u64, chance: u32) -> u64
+    ensures { λ r. ⌜ r ≡ shareOf frequency chance ⌝ }
+{
+    if 1_000_000 <= chance {
+        return frequency;
+    }
+    let c = chance as u64;
+    let high = frequency / 1_000_000 * c;
+    let low = frequency % 1_000_000 * c;
+    high + low / 1_000_000
+}
+
+// What is left of a frequency when a part is taken.
+fn rest(whole: u64, part: u64) -> u64
+    ensures { λ r. ⌜ r ≡ whole - part ⌝ }
+{
+    if part <= whole { whole - part } else { 0 }
+}
+
+// Both branches: the first has its share, the second the rest.
+pub fn split(frequency: u64, chance: u32) -> Branches
+    ensures { λ r. ⌜ r ≡ splitOf frequency chance ⌝ }
+{
+    let first = share(frequency, chance);
+    let second = rest(frequency, first);
+    Branches {
+        first: first,
+        second: second,
+    }
+}
