@@ -1,5 +1,5 @@
 -- A rule of a table, proved at all of its entries by one test that antt computes. Assumes nothing.
-use mathlib.Core.Path.{_≡_, _∙_, subst, sym}
+use mathlib.Core.Path.{_≡_, refl, _∙_, subst, sym}
 use mathlib.Core.Bool.{Bool, true, false}
 use mathlib.Core.List.{List, [], _∷_}
 use Prim.Native.Nat.{ℕ, zero, suc, _+_, _<_}
@@ -31,6 +31,15 @@ from f (x ∷ xs) i t (suc k) h =
     subst (λ (m : ℕ). T (f m (getD xs k 0))) (suc-add i k ∙ sym (add-suc i k))
     (from f xs (suc i) (both-right (f i x) (every f (suc i) xs) t) k (le-of-suc-le-suc h))
 
+-- The entry of a table at a place. It stays shut, so that antt finds the table in a goal, and a proof need not write it out again.
+unfoldable pub entry : List ℕ → ℕ → ℕ
+entry xs k = getD xs k 0
+
+pub getD-entry : (xs : List ℕ) (k : ℕ) → getD xs k 0 ≡ entry xs k
+unfolding entry
+getD-entry xs k = refl
+
 -- a test that passes over the whole table passes at each place
-pub at : (f : ℕ → ℕ → Bool) (xs : List ℕ) → T (every f 0 xs) → (k : ℕ) → k < length xs → T (f k (getD xs k 0))
+pub at : (f : ℕ → ℕ → Bool) (xs : List ℕ) → T (every f 0 xs) → (k : ℕ) → k < length xs → T (f k (entry xs k))
+unfolding entry
 at f xs t k h = subst (λ (m : ℕ). T (f m (getD xs k 0))) (zero-add k) (from f xs 0 t k h)

@@ -1,0 +1,33 @@
+-- 01, "The logarithm". Assumes nothing.
+use mathlib.Core.Path.{_≡_}
+use mathlib.Core.Logic.{_↔_}
+use mathlib.Core.Bool.{Bool, true, false}
+use Prim.Native.Nat.{ℕ, zero, suc, _+_, _*_, _^_, _<_, _≤_}
+use lib.Dec.{leb}
+
+-- the greatest number up to a bound at which a test holds, and 0 where there is none
+unfoldable pub greatest : (ℕ → Bool) → ℕ → ℕ
+greatest f zero = zero
+greatest f (suc b) = elim (f (suc b)) [ true ↦ suc b | false ↦ greatest f b ]
+
+-- L(n) of 01: the greatest m for which 2 to the power m is at most n to the power 256. For n below 2^32 it is at most 8191.
+unfoldable pub logarithm : ℕ → ℕ
+logarithm n = greatest (λ m. leb (2 ^ m) (n ^ 256)) 8191
+
+-- The law that a reader may hold against 01's words, and the answer at 0, which 01 leaves open.
+abbrev pub LogarithmRule : Type 0
+LogarithmRule = (n m : ℕ) → 1 ≤ n → n < 2 ^ 32 → (2 ^ m ≤ n ^ 256) ↔ (m ≤ logarithm n)
+
+abbrev pub LogarithmOfZero : Type 0
+LogarithmOfZero = logarithm 0 ≡ 0
+
+-- x is the threshold of step k: the least mantissa, counted from 2^31, that reaches the step
+pub record Threshold (k x : ℕ) : Type 0 where
+  pub reaches : 2 ^ (31 * 256 + k) ≤ x ^ 256
+  pub least : (m : ℕ) → 2 ^ (31 * 256 + k) ≤ m ^ 256 → x ≤ m
+
+-- a mantissa, at least 2^31 and below 2^32, lies at a step of its octave
+pub record StepOf (m k : ℕ) : Type 0 where
+  pub within : k < 256
+  pub low : 2 ^ (31 * 256 + k) ≤ m ^ 256
+  pub high : m ^ 256 < 2 ^ (31 * 256 + k + 1)
