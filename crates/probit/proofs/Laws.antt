@@ -1,0 +1,207 @@
+-- Laws of the chance that a probit stands for. Assumes nothing.
+use mathlib.Core.Path.{_≡_, refl, sym, _∙_, ap, ap₂, subst}
+use mathlib.Core.Bool.{Bool, true, false}
+use mathlib.Core.List.{List, [], _∷_, _++_, List·Memᴰ, List·Memᴰ·head, List·Memᴰ·tail, List·Memᴰ·cases-cons, List·Memᴰ·not-nil}
+use mathlib.Core.Logic.{_⊎_, inl, inr, ⊎-elim}
+use Prim.Native.Nat.{ℕ, zero, suc, _+_, _-_, _*_, _/_, _<_, _≤_, max, min}
+use native.Mathlib.Nat.{add-zero, sub-zero, zero-max, max-zero, zero-mul, suc-mul, le-of-suc-le-suc, not-suc-le-zero, le-trans, lt-of-lt-of-le, le-of-eq, add-assoc, add-comm}
+use native.Mathlib.Decide.{decLe}
+use native.Mathlib.Omega.{arith}
+use lib.Dec.{T, leb, leb→le, le→leb}
+use lib.IntN.{ℤ, pos, negsuc, _-ℤ_, subℕ}
+use lib.Signed.{leZ, leZ-yes, _≤ℤ_}
+use lib.ListN.{length, getD, List·getD-append}
+use lib.Seq.{getD-append-add}
+use borrow.Author.Tests.{lt-ltb, le-ltb, le-leb, lt-leb, leb-true}
+use Rattle.numeric.specs.Choice.{pick}
+use Rattle.numeric.proofs.TableLaws.{rising}
+use Rattle.probit.specs.Table.{Row, rowsFrom, wholePercents, tenthsOfPercent, probits, probitTable, FirstRows}
+use Rattle.probit.specs.Chance.{greatestChance, chanceOf, Reached, Unreached, ChanceRule}
+
+-- a difference of two naturals, by its sign
+pub difference-pos : (a b : ℕ) → b ≤ a → pos a -ℤ pos b ≡ pos (a - b)
+difference-pos a zero h = ap pos (add-zero a ∙ sym (sub-zero a))
+difference-pos a (suc b) h = rw (le-ltb a (suc b) h) refl
+
+pub difference-neg : (a b : ℕ) → a < b → pos a -ℤ pos b ≡ negsuc (b - suc a)
+difference-neg a zero h = absurd (not-suc-le-zero h)
+difference-neg a (suc b) h = rw (lt-ltb a (suc b) h) refl
+
+-- a negative probit reaches no row
+none-negative : (rs : List Row) (k : ℕ) → greatestChance rs (negsuc k) ≡ 0
+unfolding greatestChance
+none-negative [] k = refl
+none-negative (r ∷ rs) k = none-negative rs k
+
+pub chance-negative : (k : ℕ) → chanceOf (negsuc k) ≡ 0
+unfolding chanceOf
+chance-negative k = none-negative probitTable k
+
+-- the rows of two lists joined
+chance-append : (a b : List Row) (y : ℕ) → greatestChance (a ++ b) (pos y) ≡ max (greatestChance a (pos y)) (greatestChance b (pos y))
+unfolding greatestChance
+chance-append [] b y = sym (zero-max (greatestChance b (pos y)))
+chance-append (r ∷ a) b y = go (leb (r .probit) y) (chance-append a b y)
+  where
+    go : (t : Bool) → greatestChance (a ++ b) (pos y) ≡ max (greatestChance a (pos y)) (greatestChance b (pos y))
+        → pick t (max (r .chance) (greatestChance (a ++ b) (pos y))) (greatestChance (a ++ b) (pos y))
+        ≡ max (pick t (max (r .chance) (greatestChance a (pos y))) (greatestChance a (pos y))) (greatestChance b (pos y))
+    go true e = omega arith
+    go false e = e
+
+-- the chance of the first n of some rows that start at c and rise by s
+unfoldable pub ofRows : ℕ → ℕ → ℕ → ℕ
+ofRows c s zero = 0
+ofRows c s (suc n) = c + n * s
+
+-- one row more in front
+row-more : (c s n : ℕ) → max c (ofRows (c + s) s n) ≡ ofRows c s (suc n)
+unfolding ofRows
+row-more c s zero = rw (zero-mul s) (omega arith)
+row-more c s (suc n) = rw (suc-mul n s) (omega arith)
+
+-- where exactly the first n of a list of probits are at most y, the greatest chance is that of the n-th
+first-rows : (ys : List ℕ) (c s y n : ℕ) → n ≤ length ys
+    → ((i : ℕ) → i < n → getD ys i 0 * 10000 ≤ y)
+    → ((i : ℕ) → n ≤ i → i < length ys → y < getD ys i 0 * 10000)
+    → greatestChance (rowsFrom c s ys) (pos y) ≡ ofRows c s n
+unfolding greatestChance ofRows
+first-rows [] c s y zero h lo hi = refl
+first-rows [] c s y (suc n) h lo hi = absurd (not-suc-le-zero h)
+first-rows (z ∷ ys) c s y zero h lo hi =
+    let ih = first-rows ys (c + s) s y zero (omega arith) (λ i k. absurd (not-suc-le-zero k)) (λ i a b. hi (suc i) (omega arith) (omega arith)) in
+    rw (lt-leb (z * 10000) y (hi 0 (omega arith) (omega arith))) ih
+first-rows (z ∷ ys) c s y (suc n) h lo hi =
+    let ih = first-rows ys (c + s) s y n (omega arith) (λ i k. lo (suc i) (omega arith)) (λ i a b. hi (suc i) (omega arith) (omega arith)) in
+    rw (le-leb (z * 10000) y (lo 0 (omega arith))) (ap (λ (x : ℕ). max c x) ih ∙ row-more c s n)
+
+-- The two parts of the table: the first n of all rows are the first of the whole percents and the first of the tenths.
+module _ (y n : ℕ) (f : FirstRows (y / 10000) n) where
+  whole-reached : (i : ℕ) → i < min n 99 → getD wholePercents i 0 * 10000 ≤ y
+  whole-reached i k =
+      let e : getD probits i 0 ≡ getD wholePercents i 0 = List·getD-append wholePercents tenthsOfPercent 0 i (omega arith) in
+      let r = f .reached i (omega arith) in
+      omega arith
+
+  whole-beyond : (i : ℕ) → min n 99 ≤ i → i < 99 → y < getD wholePercents i 0 * 10000
+  whole-beyond i a b =
+      let e : getD probits i 0 ≡ getD wholePercents i 0 = List·getD-append wholePercents tenthsOfPercent 0 i b in
+      let r = f .beyond i (omega arith) (omega arith) in
+      omega arith
+
+  tenths-reached : (i : ℕ) → i < n - 99 → getD tenthsOfPercent i 0 * 10000 ≤ y
+  tenths-reached i k =
+      let e : getD probits (99 + i) 0 ≡ getD tenthsOfPercent i 0 = getD-append-add wholePercents tenthsOfPercent i 0 in
+      let r = f .reached (99 + i) (omega arith) in
+      omega arith
+
+  tenths-beyond : (i : ℕ) → n - 99 ≤ i → i < 9 → y < getD tenthsOfPercent i 0 * 10000
+  tenths-beyond i a b =
+      let e : getD probits (99 + i) 0 ≡ getD tenthsOfPercent i 0 = getD-append-add wholePercents tenthsOfPercent i 0 in
+      let r = f .beyond (99 + i) (omega arith) (omega arith) in
+      omega arith
+
+  chance-rows : chanceOf (pos y) ≡ max (ofRows 10000 10000 (min n 99)) (ofRows 991000 1000 (n - 99))
+  unfolding chanceOf probitTable
+  chance-rows =
+      let w = f .within in
+      chance-append (rowsFrom 10000 10000 wholePercents) (rowsFrom 991000 1000 tenthsOfPercent) y
+      ∙ ap₂ max
+      (first-rows wholePercents 10000 10000 y (min n 99) (omega arith) whole-reached whole-beyond)
+      (first-rows tenthsOfPercent 991000 1000 y (n - 99) (omega arith) tenths-reached tenths-beyond)
+
+ofRows-whole : (n : ℕ) → ofRows 10000 10000 n ≡ n * 10000
+unfolding ofRows
+ofRows-whole zero = refl
+ofRows-whole (suc n) = omega arith
+
+ofRows-tenths : (n : ℕ) → 0 < n → ofRows 991000 1000 n ≡ 990000 + n * 1000
+unfolding ofRows
+ofRows-tenths zero h = absurd (not-suc-le-zero h)
+ofRows-tenths (suc n) h = omega arith
+
+-- up to 99 rows, a whole percent each
+pub chance-percents : (y n : ℕ) → FirstRows (y / 10000) n → n ≤ 99 → chanceOf (pos y) ≡ n * 10000
+unfolding ofRows
+chance-percents y n f h =
+    let m : min n 99 ≡ n = omega arith in
+    let d : n - 99 ≡ 0 = omega arith in
+    chance-rows y n f ∙ rw (m, d) (ap (λ (x : ℕ). max x 0) (ofRows-whole n) ∙ max-zero (n * 10000))
+
+-- above, a tenth of a percent each
+pub chance-tenths : (y n : ℕ) → FirstRows (y / 10000) n → 99 < n → chanceOf (pos y) ≡ 990000 + (n - 99) * 1000
+chance-tenths y n f h =
+    let m : min n 99 ≡ 99 = omega arith in
+    let e = ofRows-tenths (n - 99) (omega arith) in
+    let g = ofRows-whole 99 in
+    chance-rows y n f ∙ rw m (omega arith)
+
+-- the table rises: with a row, all before it are reached, or all after it are not
+pub reached-before : (h m : ℕ) → m < 108 → getD probits m 0 ≤ h → (i : ℕ) → i < m + 1 → getD probits i 0 ≤ h
+reached-before h m w l i k = le-trans (rising probits tt i m (omega arith) w) l
+
+pub beyond-after : (h m : ℕ) → h < getD probits m 0 → (i : ℕ) → m ≤ i → i < 108 → h < getD probits i 0
+beyond-after h m l i k w = lt-of-lt-of-le l (rising probits tt m i k w)
+
+-- 01's words, over any rows
+None : ℤ → List Row → Type 0
+None y rs = ((r : Row) → List·Memᴰ r rs → pos (r .probit) ≤ℤ y → ⊥) × (greatestChance rs y ≡ 0)
+
+One : ℤ → List Row → Type 0
+One y rs =
+    (w : Row) × List·Memᴰ w rs × (pos (w .probit) ≤ℤ y) × (greatestChance rs y ≡ w .chance)
+    × ((r : Row) → List·Memᴰ r rs → pos (r .probit) ≤ℤ y → r .chance ≤ w .chance)
+
+-- a row whose test fails is not reached
+not-reached : (y : ℤ) (w r : Row) → leZ (pos (w .probit)) y ≡ false → r ≡ w → pos (r .probit) ≤ℤ y → ⊥
+not-reached y w r e q l = subst T e (subst (λ (x : Row). T (leZ (pos (x .probit)) y)) q (l .le))
+
+-- and changes nothing
+skip-row : (y : ℤ) (w : Row) (rs : List Row) → leZ (pos (w .probit)) y ≡ false → None y rs ⊎ One y rs → None y (w ∷ rs) ⊎ One y (w ∷ rs)
+unfolding None One greatestChance
+skip-row y w rs e (inl h) =
+    inl (λ r m l. ⊎-elim (λ q. not-reached y w r e q l) (λ k. h .0 r k l) (List·Memᴰ·cases-cons m), rw e (h .1))
+skip-row y w rs e (inr h) =
+    inr
+    (h .0, List·Memᴰ·tail (h .1), h .2, rw e (h .3),
+    λ r m l. ⊎-elim (λ q. absurd (not-reached y w r e q l)) (λ k. h .4 r k l) (List·Memᴰ·cases-cons m))
+
+-- a row that is reached is the greatest where no other is greater
+is-greatest : (y : ℤ) (w : Row) (rs : List Row) → leZ (pos (w .probit)) y ≡ true → greatestChance rs y ≤ w .chance
+    → ((r : Row) → List·Memᴰ r rs → pos (r .probit) ≤ℤ y → r .chance ≤ w .chance) → One y (w ∷ rs)
+unfolding One greatestChance
+is-greatest y w rs e g most =
+    (w, List·Memᴰ·head refl, leZ-yes (subst T (sym e) tt), rw e (omega arith),
+    λ r m l. ⊎-elim (λ q. le-of-eq (ap (λ (x : Row). x .chance) q)) (λ k. most r k l) (List·Memᴰ·cases-cons m))
+
+-- and otherwise the greatest of the others stays
+stays-greatest : (y : ℤ) (w : Row) (rs : List Row) → leZ (pos (w .probit)) y ≡ true → (h : One y rs) → (unfold One in w .chance ≤ h .0 .chance) → One y (w ∷ rs)
+unfolding One greatestChance
+stays-greatest y w rs e h g =
+    let s = h .3 in
+    (h .0, List·Memᴰ·tail (h .1), h .2, rw e (omega arith),
+    λ r m l. ⊎-elim (λ q. le-trans (le-of-eq (ap (λ (x : Row). x .chance) q)) g) (λ k. h .4 r k l) (List·Memᴰ·cases-cons m))
+
+take-row : (y : ℤ) (w : Row) (rs : List Row) → leZ (pos (w .probit)) y ≡ true → None y rs ⊎ One y rs → One y (w ∷ rs)
+unfolding None One
+take-row y w rs e (inl h) = is-greatest y w rs e (omega (arith, h .1)) (λ r m l. absurd (h .0 r m l))
+take-row y w rs e (inr h) = go (decLe (w .chance) (h .0 .chance))
+  where
+    go : Dec (w .chance ≤ h .0 .chance) → One y (w ∷ rs)
+    go (yes g) = stays-greatest y w rs e h g
+    go (no g) = is-greatest y w rs e (omega (arith, h .3)) (λ r m l. le-trans (h .4 r m l) (omega arith))
+
+by-row : (y : ℤ) (w : Row) (rs : List Row) (t : Bool) → leZ (pos (w .probit)) y ≡ t → None y rs ⊎ One y rs → None y (w ∷ rs) ⊎ One y (w ∷ rs)
+by-row y w rs true e h = inr (take-row y w rs e h)
+by-row y w rs false e h = skip-row y w rs e h
+
+rule-of : (y : ℤ) (rs : List Row) → None y rs ⊎ One y rs
+unfolding None greatestChance
+rule-of y [] = inl (λ r m l. List·Memᴰ·not-nil m, refl)
+rule-of y (w ∷ rs) = by-row y w rs (leZ (pos (w .probit)) y) refl (rule-of y rs)
+
+pub chance-rule : ChanceRule
+unfolding chanceOf None One
+chance-rule y = ⊎-elim (λ n. inl (record { none = n .0; nothing = n .1 }))
+    (λ o. inr (record { row = o .0; listed = o .1; below = o .2; same = o .3; most = o .4 }))
+    (rule-of y probitTable)
