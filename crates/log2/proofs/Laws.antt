@@ -86,6 +86,11 @@ logarithm-rule n m h w = (
   λ l. le-trans (pow-mono l) (leb-true _ _ (greatest-true (reached n) 8191 (le-leb _ _ (pow-le-pow-left h 256)))),
 )
 
+-- no logarithm is above 8191
+pub logarithm-le : (n : ℕ) → logarithm n ≤ 8191
+unfolding logarithm
+logarithm-le n = greatest-le (reached n) 8191
+
 pub logarithm-of-zero : LogarithmOfZero
 unfolding logarithm greatest
 logarithm-of-zero = refl

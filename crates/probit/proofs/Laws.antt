@@ -4,7 +4,7 @@ use mathlib.Core.Bool.{Bool, true, false}
 use mathlib.Core.List.{List, [], _∷_, _++_, List·Memᴰ, List·Memᴰ·head, List·Memᴰ·tail, List·Memᴰ·cases-cons, List·Memᴰ·not-nil}
 use mathlib.Core.Logic.{_⊎_, inl, inr, ⊎-elim}
 use Prim.Native.Nat.{ℕ, zero, suc, _+_, _-_, _*_, _/_, _<_, _≤_, max, min}
-use native.Mathlib.Nat.{add-zero, sub-zero, zero-max, max-zero, zero-mul, suc-mul, le-of-suc-le-suc, not-suc-le-zero, le-trans, lt-of-lt-of-le, le-of-eq, add-assoc, add-comm}
+use native.Mathlib.Nat.{add-zero, sub-zero, zero-max, max-zero, zero-mul, suc-mul, le-of-suc-le-suc, not-suc-le-zero, le-trans, lt-of-lt-of-le, le-of-eq, max-le}
 use native.Mathlib.Decide.{decLe}
 use native.Mathlib.Omega.{arith}
 use lib.Dec.{T, leb, leb→le, le→leb}
@@ -14,7 +14,7 @@ use lib.ListN.{length, getD, List·getD-append}
 use lib.Seq.{getD-append-add}
 use borrow.Author.Tests.{lt-ltb, le-ltb, le-leb, lt-leb, leb-true}
 use Rattle.numeric.specs.Choice.{pick}
-use Rattle.numeric.proofs.TableLaws.{rising}
+use Rattle.numeric.proofs.TableLaws.{both, both-left, both-right, rising}
 use Rattle.probit.specs.Table.{Row, rowsFrom, wholePercents, tenthsOfPercent, probits, probitTable, FirstRows}
 use Rattle.probit.specs.Chance.{greatestChance, chanceOf, Reached, Unreached, ChanceRule}
 
@@ -162,25 +162,37 @@ unfolding None One greatestChance
 skip-row y w rs e (inl h) =
     inl (λ r m l. ⊎-elim (λ q. not-reached y w r e q l) (λ k. h .0 r k l) (List·Memᴰ·cases-cons m), rw e (h .1))
 skip-row y w rs e (inr h) =
-    inr
-    (h .0, List·Memᴰ·tail (h .1), h .2, rw e (h .3),
-    λ r m l. ⊎-elim (λ q. absurd (not-reached y w r e q l)) (λ k. h .4 r k l) (List·Memᴰ·cases-cons m))
+    inr (
+      h .0,
+      List·Memᴰ·tail (h .1),
+      h .2,
+      rw e (h .3),
+      λ r m l. ⊎-elim (λ q. absurd (not-reached y w r e q l)) (λ k. h .4 r k l) (List·Memᴰ·cases-cons m),
+    )
 
 -- a row that is reached is the greatest where no other is greater
 is-greatest : (y : ℤ) (w : Row) (rs : List Row) → leZ (pos (w .probit)) y ≡ true → greatestChance rs y ≤ w .chance
     → ((r : Row) → List·Memᴰ r rs → pos (r .probit) ≤ℤ y → r .chance ≤ w .chance) → One y (w ∷ rs)
 unfolding One greatestChance
-is-greatest y w rs e g most =
-    (w, List·Memᴰ·head refl, leZ-yes (subst T (sym e) tt), rw e (omega arith),
-    λ r m l. ⊎-elim (λ q. le-of-eq (ap (λ (x : Row). x .chance) q)) (λ k. most r k l) (List·Memᴰ·cases-cons m))
+is-greatest y w rs e g most = (
+  w,
+  List·Memᴰ·head refl,
+  leZ-yes (subst T (sym e) tt),
+  rw e (omega arith),
+  λ r m l. ⊎-elim (λ q. le-of-eq (ap (λ (x : Row). x .chance) q)) (λ k. most r k l) (List·Memᴰ·cases-cons m),
+)
 
 -- and otherwise the greatest of the others stays
 stays-greatest : (y : ℤ) (w : Row) (rs : List Row) → leZ (pos (w .probit)) y ≡ true → (h : One y rs) → (unfold One in w .chance ≤ h .0 .chance) → One y (w ∷ rs)
 unfolding One greatestChance
 stays-greatest y w rs e h g =
-    let s = h .3 in
-    (h .0, List·Memᴰ·tail (h .1), h .2, rw e (omega arith),
-    λ r m l. ⊎-elim (λ q. le-trans (le-of-eq (ap (λ (x : Row). x .chance) q)) g) (λ k. h .4 r k l) (List·Memᴰ·cases-cons m))
+    let s = h .3 in (
+      h .0,
+      List·Memᴰ·tail (h .1),
+      h .2,
+      rw e (omega arith),
+      λ r m l. ⊎-elim (λ q. le-trans (le-of-eq (ap (λ (x : Row). x .chance) q)) g) (λ k. h .4 r k l) (List·Memᴰ·cases-cons m),
+    )
 
 take-row : (y : ℤ) (w : Row) (rs : List Row) → leZ (pos (w .probit)) y ≡ true → None y rs ⊎ One y rs → One y (w ∷ rs)
 unfolding None One
@@ -205,3 +217,24 @@ unfolding chanceOf None One
 chance-rule y = ⊎-elim (λ n. inl (record { none = n .0; nothing = n .1 }))
     (λ o. inr (record { row = o .0; listed = o .1; below = o .2; same = o .3; most = o .4 }))
     (rule-of y probitTable)
+
+-- no chance is above 1,000,000: one computed test over the rows
+allAtMost : ℕ → List Row → Bool
+allAtMost m [] = true
+allAtMost m (r ∷ rs) = both (leb (r .chance) m) (allAtMost m rs)
+
+at-most : (m : ℕ) (rs : List Row) (y : ℤ) → T (allAtMost m rs) → greatestChance rs y ≤ m
+unfolding allAtMost greatestChance
+at-most m [] y t = omega arith
+at-most m (r ∷ rs) y t = go (leZ (pos (r .probit)) y) (at-most m rs y (both-right (leb (r .chance) m) (allAtMost m rs) t))
+  where
+    one : r .chance ≤ m
+    one = leb→le _ _ (both-left (leb (r .chance) m) (allAtMost m rs) t)
+
+    go : (b : Bool) → greatestChance rs y ≤ m → pick b (max (r .chance) (greatestChance rs y)) (greatestChance rs y) ≤ m
+    go true ih = max-le one ih
+    go false ih = ih
+
+pub chance-le : (y : ℤ) → chanceOf y ≤ 1000000
+unfolding chanceOf probitTable allAtMost
+chance-le y = at-most 1000000 probitTable y tt

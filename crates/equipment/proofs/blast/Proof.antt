@@ -1,0 +1,21 @@
+-- `equipment::blast` meets its contract, case by case. Assumes nothing.
+use mathlib.Core.Path.{refl}
+use Rattle.numeric.proofs.ChoiceLaws.{ge-case, lt-case}
+use Rattle.equipment.specs.Damage.{blastDamage}
+use borrow.Author.Needs.{needs}
+use Rattle.equipment.proofs.blast.Statement.{statement}
+use Rattle.equipment.proofs.blast.Tie as tie
+
+returns : tie.Need-returns
+unfolding blastDamage
+returns c = lt-case _ _ _ _ (search needs) (refl)
+
+blast-chance-requires : tie.Need-blast-chance-requires
+blast-chance-requires c κs = search needs
+
+returns-2 : tie.Need-returns-2
+unfolding blastDamage
+returns-2 c = ge-case _ _ _ _ (search needs) (cc)
+
+pub blast-spec : {M : Type 1} → statement M
+blast-spec = tie.close (tie.spec returns blast-chance-requires returns-2)

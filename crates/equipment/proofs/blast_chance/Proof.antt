@@ -1,0 +1,25 @@
+-- `equipment::blast_chance` meets its contract. Assumes nothing.
+use Rattle.equipment.specs.Damage.{blastProbit}
+use borrow.Author.Needs.{needs}
+use Rattle.equipment.proofs.blast_chance.Statement.{statement}
+use Rattle.equipment.proofs.blast_chance.Tie as tie
+
+cast-scaled-log : tie.Need-cast-scaled-log
+cast-scaled-log c = search needs
+
+scaled-log-requires : tie.Need-scaled-log-requires
+scaled-log-requires c κs = search needs
+
+cast-chance : tie.Need-cast-chance
+cast-chance c = search needs
+
+chance-requires : tie.Need-chance-requires
+chance-requires c κs = search needs
+
+returns : tie.Need-returns
+unfolding blastProbit
+returns c = cc
+
+pub blast-chance-spec : {M : Type 1} → statement M
+blast-chance-spec =
+    tie.close (tie.spec cast-scaled-log scaled-log-requires cast-chance chance-requires returns)

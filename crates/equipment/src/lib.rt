@@ -1,0 +1,155 @@
+// The chance of damage to equipment.
+ghost use mathlib.Core.Path.{_≡_};
+ghost use Prim.Native.Nat.{_+_, _*_, _/_, _^_, _<_};
+ghost use Rattle.log2.specs.Logarithm.{logarithm};
+ghost use Rattle.probit.specs.Chance.{chanceOf};
+ghost use Rattle.terms.specs.Terms.{seconds, judgedAs};
+ghost use Rattle.equipment.specs.Damage.{blastRowOf, blastProbit, blastDamage, heatProbit, heatDamage, fireDamage, damageOf};
+use terms::Judged;
+
+// A row of table D.2 for explosions: what the probit takes off, its factor in hundredths, and the threshold in Pa.
+pub struct BlastRow {
+    pub constant: u32,
+    pub factor: u16,
+    pub threshold: u32,
+}
+
+// The row of a class in table D.2; classes 2 and 5 share one.
+fn blast_row(class: u8) -> BlastRow
+    ensures { λ r. ⌜ r ≡ blastRowOf class ⌝ }
+{
+    if class == 1 {
+        return BlastRow {
+            constant: 9_360_000,
+            factor: 134,
+            threshold: 5_170,
+        };
+    }
+    if class == 3 {
+        return BlastRow {
+            constant: 12_220_000,
+            factor: 165,
+            threshold: 17_000,
+        };
+    }
+    if class == 4 {
+        return BlastRow {
+            constant: 12_420_000,
+            factor: 164,
+            threshold: 18_700,
+        };
+    }
+    BlastRow {
+        constant: 14_440_000,
+        factor: 182,
+        threshold: 30_000,
+    }
+}
+
+// factor × L(n) × 693,147 / divisor, rounded down: the logarithm's part of a probit.
+fn scaled_log(factor: u64, n: u32, divisor: u64) -> u64
+    requires { ⌜ (factor < 2 ^ 22) × (0 < divisor) ⌝ }
+    ensures { λ r. ⌜ r ≡ factor * logarithm n * 693147 / divisor ⌝ }
+{
+    let log = log2::log256(n) as u64;
+    factor * log * 693_147 / divisor
+}
+
+// The chance by the probit of an explosion.
+fn blast_chance(row: BlastRow, pa: u32) -> u32
+    ensures { λ r. ⌜ r ≡ chanceOf (blastProbit row pa) ⌝ }
+{
+    let log = scaled_log(row.factor as u64, pa, 25_600);
+    probit::chance(log, row.constant as u64)
+}
+
+// Overpressure in Pa.
+fn blast(row: BlastRow, pa: u32) -> u32
+    ensures { λ r. ⌜ r ≡ blastDamage row pa ⌝ }
+{
+    if pa < row.threshold {
+        return 0;
+    }
+    blast_chance(row, pa)
+}
+
+// The chance by the probit of a fire.
+fn heat_chance(q: u32, volume: u32) -> u32
+    ensures { λ r. ⌜ r ≡ chanceOf (heatProbit q volume) ⌝ }
+{
+    let heat = scaled_log(2_083_416, q, 256_000_000);
+    let size = 4_925_949 * (volume as u64) / 100_000;
+    probit::chance(heat + size, 20_094_547)
+}
+
+// Heat in W/m² on a vessel or pipe at atmospheric pressure. The time that it has to exceed goes by the clock.
+fn heat(limit: u16, volume: u32, q: u32, duration: u16) -> u32
+    ensures { λ r. ⌜ r ≡ heatDamage limit volume q duration ⌝ }
+{
+    if 15_000 < q {
+        if limit < duration {
+            return heat_chance(q, volume);
+        }
+        return 0;
+    }
+    0
+}
+
+// A fire, by class: atmospheric vessels and pipes are judged, the others not.
+fn fire(limit: u16, class: u8, volume: u32, q: u32, duration: u16) -> Judged
+    ensures { λ r. ⌜ r ≡ fireDamage limit class volume q duration ⌝ }
+{
+    if class == 1 {
+        return Judged {
+            chance: heat(limit, volume, q, duration),
+            judged: true,
+        };
+    }
+    if class == 5 {
+        return Judged {
+            chance: heat(limit, volume, q, duration),
+            judged: true,
+        };
+    }
+    Judged {
+        chance: 0,
+        judged: false,
+    }
+}
+
+fn none() -> Judged
+    ensures { λ r. ⌜ r ≡ judgedAs 0 ⌝ }
+{
+    Judged {
+        chance: 0,
+        judged: true,
+    }
+}
+
+// The chance of damage, by outcome kind, class, volume, intensity and duration in seconds.
+pub fn damage(kind: u8, class: u8, volume: u32, intensity: u32, duration: u16) -> Judged
+    ensures { λ r. ⌜ r ≡ damageOf seconds kind class volume intensity duration ⌝ }
+{
+    if class == 0 {
+        return none();
+    }
+    if 5 < class {
+        return none();
+    }
+    if kind == 5 {
+        return Judged {
+            chance: blast(blast_row(class), intensity),
+            judged: true,
+        };
+    }
+    if kind == 4 {
+        return none();
+    }
+    if kind == 0 {
+        return none();
+    }
+    if kind <= 3 {
+        return fire(600, class, volume, intensity, duration);
+    }
+    none()
+}
