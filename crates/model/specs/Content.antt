@@ -1,0 +1,52 @@
+-- The content of a study, free of bytes: 01, "Records". Assumes nothing.
+use mathlib.Core.List.{List}
+use Prim.Native.Nat.{ℕ}
+use Rattle.terms.specs.Terms.{Clock, seconds}
+use Rattle.terms.specs.declared.Target.{Target as Facts}
+
+-- a branching, with the chance of its first branch in millionths
+pub data Branching : Type 0 where
+  given : ℕ → Branching
+
+abbrev pub chance : Branching → ℕ
+chance (given p) = p
+
+-- a target; its number is its place in the study, counted from 0
+pub data Target : Type 0 where
+  described : Facts → Target
+
+-- class, setting and volume
+abbrev pub facts : Target → Facts
+facts (described f) = f
+
+-- an effect: target number, intensity, duration
+pub data Effect : Type 0 where
+  inSeconds : ℕ → ℕ → ℕ → Effect
+
+abbrev pub targetOf : Effect → ℕ
+targetOf (inSeconds t i d) = t
+
+abbrev pub intensity : Effect → ℕ
+intensity (inSeconds t i d) = i
+
+abbrev pub duration : Effect → ℕ
+duration (inSeconds t i d) = d
+
+abbrev pub clock : Effect → Clock
+clock (inSeconds t i d) = seconds
+
+-- 01, "Order": a tree is an outcome with its effects, or a branching with the tree of its first branch and that of its second
+pub data Tree : Type 0 where
+  outcome : ℕ → List Effect → Tree
+  branching : Branching → Tree → Tree → Tree
+
+-- a scenario is a leak and then one tree
+pub record Scenario : Type 0 where
+  pub number : ℕ
+  pub frequency : ℕ
+  pub tree : Tree
+
+pub record Content : Type 0 where
+  pub number : ℕ
+  pub targets : List Target
+  pub scenarios : List Scenario
