@@ -6,3 +6,4 @@ pub mod Valid
 pub mod Outcomes
 pub mod Report
 pub mod MeaningTheorems
+pub mod Instances

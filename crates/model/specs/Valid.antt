@@ -41,7 +41,7 @@ pub record ValidEffect (kind targets : ℕ) (e : Effect) : Type 0 where
 pub record ValidOutcome (targets kind : ℕ) (es : List Effect) : Type 0 where
   pub known : kind ≤ mostKind
   pub few : length es ≤ mostEffects
-  pub none : kind ≡ noEffect → es ≡ []
+  pub none : kind ≡ noEffect → length es ≡ 0
   pub effects : Each (ValidEffect kind targets) es
   pub rising : RiseFrom targetOf 0 es
 

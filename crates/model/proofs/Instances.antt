@@ -1,0 +1,95 @@
+-- The two instances hold, by computation. Assumes nothing.
+use mathlib.Core.Path.{_≡_, refl}
+use mathlib.Core.List.{[], _∷_}
+use Prim.Native.Nat.{ℕ, zero, suc, _+_, _≤_}
+use native.Mathlib.Nat.{zero-add}
+use native.Mathlib.Omega.{arith}
+use Rattle.numeric.specs.Choice.{ifEq, ifLe, ifLt}
+use Rattle.numeric.specs.Share.{shareOf, splitOf}
+use Rattle.log2.specs.Logarithm.{greatest, logarithm}
+use Rattle.probit.specs.Table.{probitTable}
+use Rattle.probit.specs.Chance.{greatestChance, chanceOf}
+use Rattle.terms.specs.Terms.{byKind}
+use Rattle.people.specs.Death.{fireProbit, settingShare, fireDeath, flashDeath, blastDeath, deathOf}
+use Rattle.equipment.specs.Damage.{blastRowOf, blastProbit, blastDamage, heatProbit, heatDamage, fireDamage, damageOf}
+use Rattle.vulnerability.specs.Effect.{effectOn}
+use Rattle.vulnerability.specs.Domino.{listedBy}
+use Rattle.model.specs.Sums.{sumOver, some, joinOver, numbersBelow}
+use Rattle.model.specs.Content.{inSeconds, Tree, outcome}
+use Rattle.model.specs.Format.{bytes, encode, targetRecords, effectRecords, treeRecords, scenarioRecords, leaksOf, openRecords, countOf, recordsOf, bytesOf}
+use Rattle.model.specs.Valid.{ValidTree, Valid}
+use Rattle.model.specs.Outcomes.{treeOutcomes, scenarioOutcomes, outcomesOf}
+use Rattle.model.specs.Report.{judgement, kindTotal, overEffects, unjudgedOf, sumAt, marginAt, exactAt, gradeOf, listedAt, dominoOf}
+use Rattle.model.specs.Instances.{shownOf, Instance, specimen, specimenBytes, specimenShown, SpecimenHolds, stem, deep, deepBytes, deepShown, DeepHolds}
+
+-- an outcome without effects is valid anywhere
+nothing-valid : (targets above : ℕ) → ValidTree targets above (outcome 0 [])
+unfolding ValidTree
+nothing-valid targets above = omega arith
+
+-- the first branching's second branch of the specimen, by itself
+blast-valid : ValidTree 2 2 (outcome 5 (inSeconds 0 20000 0 ∷ inSeconds 1 70000 0 ∷ []))
+unfolding ValidTree
+blast-valid = omega arith
+
+fire-valid : ValidTree 2 1 (outcome 2 (inSeconds 0 12500 20 ∷ []))
+unfolding ValidTree
+fire-valid = omega arith
+
+specimen-valid : Valid specimen
+unfolding specimen ValidTree countOf openRecords targetRecords joinOver scenarioRecords treeRecords effectRecords
+specimen-valid =
+    record {
+      number = omega arith;
+      fewTargets = omega arith;
+      targets = omega arith;
+      fewScenarios = omega arith;
+      rising = omega arith;
+      scenarios =
+        (record {
+          number = omega arith;
+          least = omega arith;
+          most = omega arith;
+          tree = (omega arith, omega arith, fire-valid, (omega arith, omega arith, blast-valid, nothing-valid 2 2));
+        }, tt);
+      fewRecords = omega arith;
+    }
+
+deep-outcome-valid : ValidTree 4 8 (outcome 5 (inSeconds 0 30000 0 ∷ inSeconds 1 67000 0 ∷ inSeconds 2 70000 0 ∷ []))
+unfolding ValidTree
+deep-outcome-valid = omega arith
+
+-- a stem of n branchings is valid where there is room for them
+stem-valid : (n above : ℕ) (t : Tree) → n + above ≤ 8 → ValidTree 4 (n + above) t → ValidTree 4 above (stem n t)
+unfolding stem ValidTree
+stem-valid zero above t h v = rw zero-add at v
+stem-valid (suc n) above t h v =
+    let e : suc n + above ≡ n + suc above = omega arith in
+    (omega arith, omega arith, stem-valid n (suc above) t (omega arith) (rw e at v), nothing-valid 4 (suc above))
+
+deep-valid : Valid deep
+unfolding deep stem countOf openRecords targetRecords joinOver scenarioRecords treeRecords effectRecords
+deep-valid =
+    record {
+      number = omega arith;
+      fewTargets = omega arith;
+      targets = omega arith;
+      fewScenarios = omega arith;
+      rising = omega arith;
+      scenarios =
+        (record {
+          number = omega arith;
+          least = omega arith;
+          most = omega arith;
+          tree = stem-valid 8 0 _ (omega arith) deep-outcome-valid;
+        }, tt);
+      fewRecords = omega arith;
+    }
+
+pub specimen-holds : SpecimenHolds
+unfolding ifEq ifLe ifLt shareOf splitOf greatest logarithm probitTable greatestChance chanceOf byKind fireProbit settingShare fireDeath flashDeath blastDeath deathOf blastRowOf blastProbit blastDamage heatProbit heatDamage fireDamage damageOf effectOn listedBy sumOver some joinOver numbersBelow bytes encode targetRecords effectRecords treeRecords scenarioRecords leaksOf openRecords countOf recordsOf bytesOf treeOutcomes scenarioOutcomes outcomesOf judgement kindTotal overEffects unjudgedOf sumAt marginAt exactAt gradeOf listedAt dominoOf shownOf specimen
+specimen-holds = record { valid = specimen-valid; bytes = refl; shown = refl }
+
+pub deep-holds : DeepHolds
+unfolding ifEq ifLe ifLt shareOf splitOf greatest logarithm probitTable greatestChance chanceOf byKind fireProbit settingShare fireDeath flashDeath blastDeath deathOf blastRowOf blastProbit blastDamage heatProbit heatDamage fireDamage damageOf effectOn listedBy sumOver some joinOver numbersBelow bytes encode targetRecords effectRecords treeRecords scenarioRecords leaksOf openRecords countOf recordsOf bytesOf treeOutcomes scenarioOutcomes outcomesOf judgement kindTotal overEffects unjudgedOf sumAt marginAt exactAt gradeOf listedAt dominoOf shownOf stem deep
+deep-holds = record { valid = deep-valid; bytes = refl; shown = refl }

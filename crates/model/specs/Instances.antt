@@ -1,0 +1,171 @@
+-- Two contents with their bytes and their figures, as numbers. Assumes nothing.
+use mathlib.Core.Path.{_≡_}
+use mathlib.Core.List.{List, [], _∷_, _++_}
+use Prim.Native.Nat.{ℕ, zero, suc}
+use lib.ListN.{length}
+use Rattle.model.specs.Content.{given, Target, described, Effect, inSeconds, Tree, outcome, branching, Content}
+use Rattle.model.specs.Format.{leaksOf, countOf, bytesOf}
+use Rattle.model.specs.Valid.{Valid}
+use Rattle.model.specs.Report.{kindTotal, unjudgedOf, sumAt, marginAt, exactAt, gradeOf, dominoOf}
+
+-- what a report shows of a content, with the exact sums
+pub record Shown : Type 0 where
+  pub records : ℕ
+  pub leaks : ℕ
+  pub kinds : List ℕ
+  pub unjudged : ℕ
+  pub sums : List ℕ
+  pub margins : List ℕ
+  pub grades : List ℕ
+  pub domino : List ℕ
+  pub exacts : List ℕ
+
+-- a figure at 0, 1, .. below n
+abbrev pub figuresBelow : ℕ → (ℕ → ℕ) → List ℕ
+figuresBelow zero f = []
+figuresBelow (suc n) f = figuresBelow n f ++ (f n ∷ [])
+
+unfoldable pub shownOf : Content → Shown
+shownOf c =
+    record {
+      records = countOf c;
+      leaks = leaksOf c;
+      kinds = figuresBelow 6 (kindTotal c);
+      unjudged = unjudgedOf c;
+      sums = figuresBelow (length (c .targets)) (sumAt c);
+      margins = figuresBelow (length (c .targets)) (marginAt c);
+      grades = figuresBelow (length (c .targets)) (λ t. gradeOf (sumAt c t));
+      domino = dominoOf c;
+      exacts = figuresBelow (length (c .targets)) (exactAt c);
+    }
+
+-- a content is valid, has these bytes, and a report shows these figures of it
+pub record Instance (c : Content) (b : List ℕ) (s : Shown) : Type 0 where
+  pub valid : Valid c
+  pub bytes : bytesOf c ≡ b
+  pub shown : shownOf c ≡ s
+
+abbrev pub target : ℕ → ℕ → ℕ → Target
+target class setting volume = described (record { class = class; setting = setting; volume = volume })
+
+-- 01, "The specimen study"
+unfoldable pub specimen : Content
+specimen =
+    record {
+      number = 7;
+      targets = target 0 0 0 ∷ target 1 0 500 ∷ [];
+      scenarios =
+        record {
+          number = 1;
+          frequency = 100000000;
+          tree =
+            branching (given 100000) (outcome 2 (inSeconds 0 12500 20 ∷ []))
+            (branching (given 250000) (outcome 5 (inSeconds 0 20000 0 ∷ inSeconds 1 70000 0 ∷ [])) (outcome 0 []));
+        }
+        ∷ [];
+    }
+
+abbrev pub specimenBytes : List ℕ
+specimenBytes =
+    1 ∷ 0 ∷ 0 ∷ 0 ∷ 7 ∷
+    2 ∷ 0 ∷ 0 ∷ 0 ∷ 0 ∷ 0 ∷ 0 ∷ 0 ∷ 0 ∷
+    2 ∷ 0 ∷ 1 ∷ 1 ∷ 0 ∷ 0 ∷ 0 ∷ 1 ∷ 244 ∷
+    3 ∷ 0 ∷ 0 ∷ 0 ∷ 1 ∷ 0 ∷ 0 ∷ 0 ∷ 0 ∷ 5 ∷ 245 ∷ 225 ∷ 0 ∷
+    4 ∷ 0 ∷ 1 ∷ 134 ∷ 160 ∷
+    5 ∷ 2 ∷ 0 ∷ 1 ∷
+    6 ∷ 0 ∷ 0 ∷ 0 ∷ 0 ∷ 48 ∷ 212 ∷ 0 ∷ 20 ∷
+    4 ∷ 0 ∷ 3 ∷ 208 ∷ 144 ∷
+    5 ∷ 5 ∷ 0 ∷ 2 ∷
+    6 ∷ 0 ∷ 0 ∷ 0 ∷ 0 ∷ 78 ∷ 32 ∷ 0 ∷ 0 ∷
+    6 ∷ 0 ∷ 1 ∷ 0 ∷ 1 ∷ 17 ∷ 112 ∷ 0 ∷ 0 ∷
+    5 ∷ 0 ∷ 0 ∷ 0 ∷
+    7 ∷ 0 ∷ 0 ∷ 0 ∷ 13 ∷ 0 ∷ 0 ∷ 0 ∷ 0 ∷ 5 ∷ 245 ∷ 225 ∷ 0 ∷ []
+
+abbrev pub specimenShown : Shown
+specimenShown =
+    record {
+      records = 13;
+      leaks = 100000000;
+      kinds = 67500000 ∷ 0 ∷ 10000000 ∷ 0 ∷ 0 ∷ 22500000 ∷ [];
+      unjudged = 0;
+      sums = 600000 ∷ 16200000 ∷ [];
+      margins = 5 ∷ 3 ∷ [];
+      grades = 1 ∷ 3 ∷ [];
+      domino = 1 ∷ [];
+      exacts = 600000000000000000000000000000000000000000000000000000000000 ∷ 16200000000000000000000000000000000000000000000000000000000000 ∷ [];
+    }
+
+abbrev pub SpecimenHolds : Type 0
+SpecimenHolds = Instance specimen specimenBytes specimenShown
+
+-- A content with a remainder at each of eight branchings: the frequency falls from 10,000,003 to 9,999,922, below 10^7, and
+-- target 2 is listed all the same; 67,000 Pa on target 1 is 70 % and lists it not; target 3 is named by no effect.
+unfoldable pub stem : ℕ → Tree → Tree
+stem zero t = t
+stem (suc n) t = branching (given 999999) (stem n t) (outcome 0 [])
+
+unfoldable pub deep : Content
+deep =
+    record {
+      number = 8;
+      targets = target 0 0 0 ∷ target 1 0 0 ∷ target 1 0 0 ∷ target 5 0 0 ∷ [];
+      scenarios =
+        record {
+          number = 5;
+          frequency = 10000003;
+          tree = stem 8 (outcome 5 (inSeconds 0 30000 0 ∷ inSeconds 1 67000 0 ∷ inSeconds 2 70000 0 ∷ []));
+        }
+        ∷ [];
+    }
+
+abbrev pub deepBytes : List ℕ
+deepBytes =
+    1 ∷ 0 ∷ 0 ∷ 0 ∷ 8 ∷
+    2 ∷ 0 ∷ 0 ∷ 0 ∷ 0 ∷ 0 ∷ 0 ∷ 0 ∷ 0 ∷
+    2 ∷ 0 ∷ 1 ∷ 1 ∷ 0 ∷ 0 ∷ 0 ∷ 0 ∷ 0 ∷
+    2 ∷ 0 ∷ 2 ∷ 1 ∷ 0 ∷ 0 ∷ 0 ∷ 0 ∷ 0 ∷
+    2 ∷ 0 ∷ 3 ∷ 5 ∷ 0 ∷ 0 ∷ 0 ∷ 0 ∷ 0 ∷
+    3 ∷ 0 ∷ 0 ∷ 0 ∷ 5 ∷ 0 ∷ 0 ∷ 0 ∷ 0 ∷ 0 ∷ 152 ∷ 150 ∷ 131 ∷
+    4 ∷ 0 ∷ 15 ∷ 66 ∷ 63 ∷
+    4 ∷ 0 ∷ 15 ∷ 66 ∷ 63 ∷
+    4 ∷ 0 ∷ 15 ∷ 66 ∷ 63 ∷
+    4 ∷ 0 ∷ 15 ∷ 66 ∷ 63 ∷
+    4 ∷ 0 ∷ 15 ∷ 66 ∷ 63 ∷
+    4 ∷ 0 ∷ 15 ∷ 66 ∷ 63 ∷
+    4 ∷ 0 ∷ 15 ∷ 66 ∷ 63 ∷
+    4 ∷ 0 ∷ 15 ∷ 66 ∷ 63 ∷
+    5 ∷ 5 ∷ 0 ∷ 3 ∷
+    6 ∷ 0 ∷ 0 ∷ 0 ∷ 0 ∷ 117 ∷ 48 ∷ 0 ∷ 0 ∷
+    6 ∷ 0 ∷ 1 ∷ 0 ∷ 1 ∷ 5 ∷ 184 ∷ 0 ∷ 0 ∷
+    6 ∷ 0 ∷ 2 ∷ 0 ∷ 1 ∷ 17 ∷ 112 ∷ 0 ∷ 0 ∷
+    5 ∷ 0 ∷ 0 ∷ 0 ∷
+    5 ∷ 0 ∷ 0 ∷ 0 ∷
+    5 ∷ 0 ∷ 0 ∷ 0 ∷
+    5 ∷ 0 ∷ 0 ∷ 0 ∷
+    5 ∷ 0 ∷ 0 ∷ 0 ∷
+    5 ∷ 0 ∷ 0 ∷ 0 ∷
+    5 ∷ 0 ∷ 0 ∷ 0 ∷
+    5 ∷ 0 ∷ 0 ∷ 0 ∷
+    7 ∷ 0 ∷ 0 ∷ 0 ∷ 27 ∷ 0 ∷ 0 ∷ 0 ∷ 0 ∷ 0 ∷ 152 ∷ 150 ∷ 131 ∷ []
+
+abbrev pub deepShown : Shown
+deepShown =
+    record {
+      records = 27;
+      leaks = 10000003;
+      kinds = 81 ∷ 0 ∷ 0 ∷ 0 ∷ 0 ∷ 9999922 ∷ [];
+      unjudged = 0;
+      sums = 9999922 ∷ 6999945 ∷ 7199943 ∷ 0 ∷ [];
+      margins = 9 ∷ 9 ∷ 9 ∷ 0 ∷ [];
+      grades = 2 ∷ 2 ∷ 2 ∷ 0 ∷ [];
+      domino = 2 ∷ [];
+      exacts =
+        9999923000255999524000531999650000112000003999986000003000000
+        ∷ 6999946100179199666800372399755000078400002799990200002100000
+        ∷ 7199944560184319657280383039748000080640002879989920002160000
+        ∷ 0
+        ∷ [];
+    }
+
+abbrev pub DeepHolds : Type 0
+DeepHolds = Instance deep deepBytes deepShown
