@@ -7,3 +7,6 @@ pub mod Outcomes
 pub mod Report
 pub mod MeaningTheorems
 pub mod Instances
+pub mod Faults
+pub mod Verdict
+pub mod Calls
