@@ -45,13 +45,15 @@ specimen-valid =
       targets = omega arith;
       fewScenarios = omega arith;
       rising = omega arith;
-      scenarios =
-        (record {
+      scenarios = (
+        record {
           number = omega arith;
           least = omega arith;
           most = omega arith;
           tree = (omega arith, omega arith, fire-valid, (omega arith, omega arith, blast-valid, nothing-valid 2 2));
-        }, tt);
+        },
+        tt,
+      );
       fewRecords = omega arith;
     }
 
@@ -76,13 +78,15 @@ deep-valid =
       targets = omega arith;
       fewScenarios = omega arith;
       rising = omega arith;
-      scenarios =
-        (record {
+      scenarios = (
+        record {
           number = omega arith;
           least = omega arith;
           most = omega arith;
           tree = stem-valid 8 0 _ (omega arith) deep-outcome-valid;
-        }, tt);
+        },
+        tt,
+      );
       fewRecords = omega arith;
     }
 

@@ -1,6 +1,11 @@
 pub mod ListLaws
+pub mod SumLaws
 pub mod OutcomeFacts
+pub mod OutcomeLaws
 pub mod Totals
+pub mod Weights
+pub mod Margin
 pub mod SumBounds
 pub mod DominoLaws
 pub mod Instances
+pub mod Accepts

@@ -55,14 +55,14 @@ specimen =
       number = 7;
       targets = target 0 0 0 ∷ target 1 0 500 ∷ [];
       scenarios =
-        record {
-          number = 1;
-          frequency = 100000000;
-          tree =
-            branching (given 100000) (outcome 2 (inSeconds 0 12500 20 ∷ []))
-            (branching (given 250000) (outcome 5 (inSeconds 0 20000 0 ∷ inSeconds 1 70000 0 ∷ [])) (outcome 0 []));
-        }
-        ∷ [];
+          record {
+            number = 1;
+            frequency = 100000000;
+            tree =
+                branching (given 100000) (outcome 2 (inSeconds 0 12500 20 ∷ []))
+                (branching (given 250000) (outcome 5 (inSeconds 0 20000 0 ∷ inSeconds 1 70000 0 ∷ [])) (outcome 0 []));
+          }
+          ∷ [];
     }
 
 abbrev pub specimenBytes : List ℕ
@@ -110,12 +110,12 @@ deep =
       number = 8;
       targets = target 0 0 0 ∷ target 1 0 0 ∷ target 1 0 0 ∷ target 5 0 0 ∷ [];
       scenarios =
-        record {
-          number = 5;
-          frequency = 10000003;
-          tree = stem 8 (outcome 5 (inSeconds 0 30000 0 ∷ inSeconds 1 67000 0 ∷ inSeconds 2 70000 0 ∷ []));
-        }
-        ∷ [];
+          record {
+            number = 5;
+            frequency = 10000003;
+            tree = stem 8 (outcome 5 (inSeconds 0 30000 0 ∷ inSeconds 1 67000 0 ∷ inSeconds 2 70000 0 ∷ []));
+          }
+          ∷ [];
     }
 
 abbrev pub deepBytes : List ℕ
@@ -160,11 +160,11 @@ deepShown =
       grades = 2 ∷ 2 ∷ 2 ∷ 0 ∷ [];
       domino = 2 ∷ [];
       exacts =
-        9999923000255999524000531999650000112000003999986000003000000
-        ∷ 6999946100179199666800372399755000078400002799990200002100000
-        ∷ 7199944560184319657280383039748000080640002879989920002160000
-        ∷ 0
-        ∷ [];
+          9999923000255999524000531999650000112000003999986000003000000
+          ∷ 6999946100179199666800372399755000078400002799990200002100000
+          ∷ 7199944560184319657280383039748000080640002879989920002160000
+          ∷ 0
+          ∷ [];
     }
 
 abbrev pub DeepHolds : Type 0

@@ -10,3 +10,5 @@ pub mod Instances
 pub mod Faults
 pub mod Verdict
 pub mod Calls
+pub mod Machine
+pub mod MachineTheorems

@@ -1,0 +1,107 @@
+-- The theorems over every list of calls from the fresh study. Proofs stand in proofs/. Assumes nothing.
+use mathlib.Core.Path.{_≡_}
+use mathlib.Core.Logic.{_↔_, _⊎_}
+use mathlib.Core.List.{List, [], _∷_, _++_}
+use Prim.Native.Nat.{ℕ, _+_, _*_, _^_, _<_}
+use lib.ListN.{length}
+use Rattle.state.specs.declared.Totals.{Totals}
+use Rattle.state.specs.declared.TargetReport.{TargetReport}
+use Rattle.model.specs.Content.{Target, Scenario, Content}
+use Rattle.model.specs.Sums.{sumOver, joinOver}
+use Rattle.model.specs.Format.{Record, openingRec, targetRec, closingRec, scenarioRecords, leaksOf, bytesOf}
+use Rattle.model.specs.Valid.{Valid, Each}
+use Rattle.model.specs.Report.{marginAt, exactAt, Named}
+use Rattle.model.specs.Faults.{Context, start, role, orderFault, contextAfter, contextAfterAll}
+use Rattle.model.specs.Verdict.{closed, verdict}
+use Rattle.model.specs.Calls.{Call, totals, target, gaveTotals, gaveTarget, answers, joined, Callable}
+use Rattle.model.specs.Machine.{fresh, readAll, stateAfterAll, answerIn, answersIn}
+
+-- Answers: every call is answered as 01 says from the bytes joined before it and the call alone, wherever the bytes were cut (demands 1 and 2).
+abbrev pub Answers : Type 0
+Answers = (cs : List Call) → Each Callable cs → answersIn fresh cs ≡ answers [] cs
+
+-- "It is closed once a front part of them runs from opening to closing with nothing that refusals 1 to 6 name."
+pub record ClosedFront (l : List ℕ) : Type 0 where
+  pub content : Content
+  pub valid : Valid content
+  pub tail : List ℕ
+  pub same : l ≡ bytesOf content ++ tail
+
+abbrev pub ClosedExactlyThen : Type 0
+ClosedExactlyThen = (cs : List Call) → Each Callable cs → (stateAfterAll fresh cs .core .reading .phase ≡ 1) ↔ ClosedFront (joined [] cs)
+
+-- and then the content is that part's, whatever follows it
+abbrev pub ClosedContent : Type 0
+ClosedContent = (c : Content) → Valid c → (tail : List ℕ) → verdict (bytesOf c ++ tail) ≡ closed (length (bytesOf c)) c
+
+-- "the totals of the six outcome kinds add up to the leaks, to the last unit"
+pub record TotalsHold (cs : List Call) (c : Content) : Type 0 where
+  pub report : Totals
+  pub answered : answerIn (stateAfterAll fresh cs) totals ≡ gaveTotals report
+  pub taken : report .number ≡ 0
+  pub leaks : report .leaks ≡ leaksOf c
+  pub six : length (report .kinds) ≡ 6
+  pub kinds : sumOver (λ x. x) (report .kinds) ≡ leaksOf c
+
+-- "at each target the reported sum differs from the exact one by less than its margin"
+pub record Near (c : Content) (t sum margin : ℕ) : Type 0 where
+  pub named : Named c t
+  pub notAbove : sum * 10 ^ 54 < exactAt c t + margin * 10 ^ 54
+  pub notBelow : exactAt c t < sum * 10 ^ 54 + margin * 10 ^ 54
+
+-- "or both are nought if no effect names it"
+pub record Nought (c : Content) (t sum : ℕ) : Type 0 where
+  pub unnamed : Named c t → ⊥
+  pub reported : sum ≡ 0
+  pub exact : exactAt c t ≡ 0
+
+pub record TargetHolds (cs : List Call) (c : Content) (t : ℕ) : Type 0 where
+  pub report : TargetReport
+  pub answered : answerIn (stateAfterAll fresh cs) (target t) ≡ gaveTarget report
+  pub taken : report .number ≡ 0
+  pub margin : report .margin ≡ marginAt c t
+  pub near : Near c t (report .sum) (report .margin) ⊎ Nought c t (report .sum)
+
+pub record DemandHolds (cs : List Call) (c : Content) : Type 0 where
+  pub totals : TotalsHold cs c
+  pub targets : (t : ℕ) → t < length (c .targets) → TargetHolds cs c t
+
+-- Demand 3, one claim about every list of calls
+abbrev pub Demand3 : Type 0
+Demand3 = (cs : List Call) (c : Content) → Valid c → (tail : List ℕ) → joined [] cs ≡ bytesOf c ++ tail → DemandHolds cs c
+
+-- "wherever they were cut"
+abbrev pub CutsMakeNoDifference : Type 0
+CutsMakeNoDifference = (cs : List Call) → stateAfterAll fresh cs ≡ readAll fresh (joined [] cs)
+
+-- a list of records in 01's order: opening; targets; a leak and a tree, as many effects as announced, any number of times; closing
+pub record Numbered : Type 0 where
+  pub number : ℕ
+  pub target : Target
+
+pub record InOrder (rs : List Record) : Type 0 where
+  pub study : ℕ
+  pub targets : List Numbered
+  pub scenarios : List Scenario
+  pub count : ℕ
+  pub sum : ℕ
+  pub same : rs ≡ openingRec study ∷ joinOver (λ t. targetRec (t .number) (t .target) ∷ []) targets ++ joinOver scenarioRecords scenarios ++ (closingRec count sum ∷ [])
+
+-- the order allows a record
+abbrev pub Allowed : Context → Record → Type 0
+Allowed x r = orderFault (x .counts .records) (x .left) (length (x .trees)) (x .counts .scenarios) (role r) ≡ 0
+
+unfoldable pub AllAllowed : Context → List Record → Type 0
+AllAllowed x [] = Unit {0}
+AllAllowed x (r ∷ rs) = Allowed x r × (role r ≡ 7 → ⊥) × AllAllowed (contextAfter x r) rs
+
+pub record Continued (rs : List Record) (k : ℕ) : Type 0 where
+  pub next : Record
+  pub kind : role next ≡ k
+  pub rest : List Record
+  pub order : InOrder (rs ++ (next ∷ rest))
+
+-- the order allows kind k after these records exactly when some list of records in 01's order begins with them and a record of kind k
+abbrev pub OrderIsTheFormats : Type 0
+OrderIsTheFormats = (rs : List Record) (r : Record)
+    → (AllAllowed start rs × Allowed (contextAfterAll start rs) r) ↔ Continued rs (role r)
