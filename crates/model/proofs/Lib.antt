@@ -9,3 +9,5 @@ pub mod SumBounds
 pub mod DominoLaws
 pub mod Instances
 pub mod Accepts
+pub mod ReadLaws
+pub mod Follows
