@@ -11,3 +11,7 @@ pub mod Instances
 pub mod Accepts
 pub mod ReadLaws
 pub mod Follows
+pub mod CodecLaws
+pub mod CutLaws
+pub mod RunData
+pub mod Agreement
