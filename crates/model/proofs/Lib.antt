@@ -15,3 +15,4 @@ pub mod CodecLaws
 pub mod CutLaws
 pub mod RunData
 pub mod Agreement
+pub mod CallLaws
