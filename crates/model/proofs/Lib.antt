@@ -16,3 +16,10 @@ pub mod CutLaws
 pub mod RunData
 pub mod Agreement
 pub mod CallLaws
+pub mod StackLaws
+pub mod RowLaws
+pub mod PartFigures
+pub mod RowSteps
+pub mod StackRuns
+pub mod Runs
+pub mod Seen

@@ -1,20 +1,23 @@
 -- The theorems over every list of calls from the fresh study. Proofs stand in proofs/. Assumes nothing.
 use mathlib.Core.Path.{_≡_}
 use mathlib.Core.Logic.{_↔_, _⊎_}
-use mathlib.Core.List.{List, [], _∷_, _++_}
+use mathlib.Core.List.{List, [], _∷_, _++_, map}
 use Prim.Native.Nat.{ℕ, _+_, _*_, _^_, _<_}
 use lib.ListN.{length}
+use Rattle.numeric.specs.Choice.{ifEq}
+use Rattle.state.specs.declared.Branch.{Branch}
 use Rattle.state.specs.declared.Totals.{Totals}
 use Rattle.state.specs.declared.TargetReport.{TargetReport}
 use Rattle.model.specs.Content.{Target, Scenario, Content}
 use Rattle.model.specs.Sums.{sumOver, joinOver}
-use Rattle.model.specs.Format.{Record, openingRec, targetRec, closingRec, scenarioRecords, leaksOf, bytesOf}
+use Rattle.model.specs.Format.{Record, openingRec, targetRec, closingRec, scenarioRecords, leaksOf, openRecords, bytesOf}
 use Rattle.model.specs.Valid.{Valid, Each}
+use Rattle.model.specs.Outcomes.{Outcome, above, outcomesOf}
 use Rattle.model.specs.Report.{marginAt, exactAt, Named}
 use Rattle.model.specs.Faults.{Context, start, role, orderFault, contextAfter, contextAfterAll}
 use Rattle.model.specs.Verdict.{closed, verdict}
 use Rattle.model.specs.Calls.{Call, totals, target, gaveTotals, gaveTarget, answers, joined, Callable}
-use Rattle.model.specs.Machine.{fresh, readAll, stateAfterAll, answerIn, answersIn}
+use Rattle.model.specs.Machine.{State, accepted, fresh, readAll, stateAfterAll, answerIn, answersIn}
 
 -- Answers: every call is answered as 01 says from the bytes joined before it and the call alone, wherever the bytes were cut (demands 1 and 2).
 abbrev pub Answers : Type 0
@@ -105,3 +108,26 @@ pub record Continued (rs : List Record) (k : ℕ) : Type 0 where
 abbrev pub OrderIsTheFormats : Type 0
 OrderIsTheFormats = (rs : List Record) (r : Record)
     → (AllAllowed start rs × Allowed (contextAfterAll start rs) r) ↔ Continued rs (role r)
+
+-- what the machine holds of an outcome when its record has been taken
+pub record Seen : Type 0 where
+  pub kind : ℕ
+  pub leak : ℕ
+  pub frequency : ℕ
+  pub above : ℕ
+
+-- the records are taken one after the other, and after each outcome's record (role 5) the machine's figures of it are noted
+abbrev pub seenAt : Branch → Seen
+seenAt b = record { kind = b .kind; leak = b .leak; frequency = b .frequency; above = b .above }
+
+unfoldable pub seenIn : State → List Record → List Seen
+seenIn s [] = []
+seenIn s (r ∷ rs) = ifEq (role r) 5 (seenAt (accepted s r .core .branch) ∷ []) [] ++ seenIn (accepted s r) rs
+
+-- the same four figures of an outcome of the meaning
+abbrev pub seenOf : Outcome → Seen
+seenOf o = record { kind = o .kind; leak = o .leak; frequency = o .frequency; above = above o }
+
+-- the machine holds each outcome of the meaning, in order, with the meaning's kind, leak, frequency and branchings above
+abbrev pub OutcomesAreTheMeanings : Type 0
+OutcomesAreTheMeanings = (c : Content) → Valid c → seenIn fresh (openRecords c) ≡ map seenOf (outcomesOf c)
