@@ -112,7 +112,7 @@ part-fault s l (effectRec e) = refl
 part-fault s l (closingRec n t) = refl
 
 -- only a closing record has its role
-closing-role : (r : Record) → role r ≡ 7 → (n : ℕ) × (t : ℕ) × (r ≡ closingRec n t)
+pub closing-role : (r : Record) → role r ≡ 7 → (n : ℕ) × (t : ℕ) × (r ≡ closingRec n t)
 closing-role (openingRec n) e = let z : ⊥ = omega arith in absurd z
 closing-role (targetRec n t) e = let z : ⊥ = omega arith in absurd z
 closing-role (leakRec n f) e = let z : ⊥ = omega arith in absurd z

@@ -23,3 +23,12 @@ pub mod RowSteps
 pub mod StackRuns
 pub mod Runs
 pub mod Seen
+pub mod FaultLaws
+pub mod ContextLaws
+pub mod AcceptLaws
+pub mod OwnLaws
+pub mod Shape
+pub mod PartsLaws
+pub mod Complete
+pub mod Sound
+pub mod ClosedLaws
