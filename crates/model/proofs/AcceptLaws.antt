@@ -1,16 +1,16 @@
 -- Records are taken exactly when the order allows each, each keeps its own rules and their number is in its bound. Assumes nothing.
-use mathlib.Core.Path.{_≡_, refl, subst}
+use mathlib.Core.Path.{_≡_}
 use mathlib.Core.List.{List, [], _∷_, _++_}
-use Prim.Native.Nat.{ℕ, suc, _+_, _≤_, _<_}
+use Prim.Native.Nat.{_+_, _≤_}
 use native.Mathlib.Omega.{arith}
 use lib.ListN.{length}
 use Rattle.model.specs.Bounds.{mostRecords}
 use Rattle.model.specs.Format.{Record}
 use Rattle.model.specs.Valid.{Each}
-use Rattle.model.specs.Faults.{Context, role, ownFault, fault, contextAfter, contextAfterAll}
-use Rattle.model.specs.MachineTheorems.{Allowed, AllAllowed}
+use Rattle.model.specs.Faults.{Context, ownFault, contextAfter, contextAfterAll}
+use Rattle.model.specs.MachineTheorems.{AllAllowed}
 use Rattle.model.proofs.Accepts.{Accepts}
-use Rattle.model.proofs.FaultLaws.{Taken, fault-facts, fault-free}
+use Rattle.model.proofs.FaultLaws.{fault-facts, fault-free}
 use Rattle.model.proofs.ContextLaws.{record-counted}
 
 -- each record keeps the rules of its own kind

@@ -64,17 +64,17 @@ ready s x f =
     record { reads = f .reads; none = f .none; wide = f .wide; room = omega arith }
 
 -- one record more
-accepts-more : (x : Context) (rs : List Record) (r : Record) → Accepts x rs → fault (contextAfterAll x rs) r ≡ 0 → (role r ≡ 7 → ⊥) → Accepts x (rs ++ (r ∷ []))
+pub accepts-more : (x : Context) (rs : List Record) (r : Record) → Accepts x rs → fault (contextAfterAll x rs) r ≡ 0 → (role r ≡ 7 → ⊥) → Accepts x (rs ++ (r ∷ []))
 unfolding Accepts contextAfterAll
 accepts-more x [] r a e n = (e, n, tt)
 accepts-more x (q ∷ rs) r a e n = (a .0, a .1, accepts-more (contextAfter x q) rs r (a .2) e n)
 
-context-more : (x : Context) (rs : List Record) (r : Record) → contextAfterAll x (rs ++ (r ∷ [])) ≡ contextAfter (contextAfterAll x rs) r
+pub context-more : (x : Context) (rs : List Record) (r : Record) → contextAfterAll x (rs ++ (r ∷ [])) ≡ contextAfter (contextAfterAll x rs) r
 unfolding contextAfterAll
 context-more x [] r = refl
 context-more x (q ∷ rs) r = context-more (contextAfter x q) rs r
 
-fits-more : (rs : List Record) (r : Record) → Each Fits rs → Fits r → Each Fits (rs ++ (r ∷ []))
+pub fits-more : (rs : List Record) (r : Record) → Each Fits rs → Fits r → Each Fits (rs ++ (r ∷ []))
 fits-more [] r f g = (g, tt)
 fits-more (q ∷ rs) r f g = (f .0, fits-more rs r (f .1) g)
 
@@ -271,7 +271,7 @@ bytes-second : (a b : List ℕ) → Bytes (a ++ b) → Bytes b
 bytes-second [] b y = y
 bytes-second (x ∷ a) b y = bytes-second a b (y .1)
 
-bytes-each : (bs : List (List ℕ)) (left : List ℕ) → Bytes (joinOver (λ b. b) bs ++ left) → Each Bytes bs
+pub bytes-each : (bs : List (List ℕ)) (left : List ℕ) → Bytes (joinOver (λ b. b) bs ++ left) → Each Bytes bs
 unfolding joinOver
 bytes-each [] left y = tt
 bytes-each (b ∷ bs) left y =

@@ -73,8 +73,10 @@ report-domino s total l (closed p c) a = room (decLe (length (dominoOf c)) (leng
   where
     q : s .core .reading .phase ≡ 2 → ⊥
     q z = let h = a .phase in omega arith
+
     m : length (markedIn s) ≡ length (dominoOf c)
     m = ap length (a .domino)
+
     room : Dec (length (dominoOf c) ≤ length l)
         → gaveDomino (dominoIn s (length l)) (lentAfter s l)
         ≡ ifLe (length (dominoOf c)) (length l) (gaveDomino (record { number = 0; place = p; count = length (dominoOf c) }) (front (dominoOf c) l)) (gaveDomino (noDomino 10 p) l)
@@ -89,11 +91,11 @@ report-domino s total l (closed p c) a = room (decLe (length (dominoOf c)) (leng
         (sym (ne-case _ _ _ _ q (eq-case _ _ _ _ (a .phase) (gt-case _ _ _ _ (omega (arith, m)) (ap (noDomino 10) (sym (a .place)))))))
         (sym (eq-case _ _ _ _ (a .phase) (gt-case _ _ _ _ (omega (arith, m)) refl))))
 
-bytes-join : (a b : List ℕ) → Bytes a → Bytes b → Bytes (a ++ b)
+pub bytes-join : (a b : List ℕ) → Bytes a → Bytes b → Bytes (a ++ b)
 bytes-join [] b y z = z
 bytes-join (x ∷ a) b y z = (y .0, bytes-join a b (y .1) z)
 
-joined-bytes : (before : List ℕ) (c : Call) → Bytes before → Callable c → Bytes (joinedAfter before c)
+pub joined-bytes : (before : List ℕ) (c : Call) → Bytes before → Callable c → Bytes (joinedAfter before c)
 unfolding joinedAfter Callable
 joined-bytes before (piece b) y z = bytes-join before b y z
 joined-bytes before totals y z = y
@@ -132,6 +134,7 @@ piece-answer s t b before total v (closed p c) e r a g =
   where
     stayed : (s .core .reading .phase ≡ 0 → ⊥) → t .core .reading ≡ s .core .reading
     stayed n = ap (λ (u : State). u .core .reading) (r ∙ read-stays s b n)
+
     seven : (v : Verdict) → Agrees s before v → ifLt (t .core .reading .place - s .core .reading .place) (length b) 7 0 ≡ pieceNumber total p (length b)
     seven unclosed a = rw (g .place, a .1) (piece-number before (length b) total p e)
     seven (refused n q) a =

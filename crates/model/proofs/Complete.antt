@@ -1,30 +1,25 @@
 -- The records of a valid content are taken from the first to the closing one, and the content is read from them. Assumes nothing.
-use mathlib.Core.Path.{_≡_, refl, sym, _∙_, ap}
+use mathlib.Core.Path.{_≡_, refl, sym, _∙_, ap, subst}
 use mathlib.Core.List.{List, [], _∷_, _++_}
-use Prim.Native.Nat.{ℕ, suc, _+_, _*_, _^_, _<_, _≤_}
+use Prim.Native.Nat.{ℕ, _+_, _<_}
 use native.Mathlib.Nat.{zero-add}
 use native.Mathlib.Omega.{arith}
-use lib.ListN.{length, length-append}
-use Rattle.model.specs.Bounds.{mostScenarios, mostFrequency}
-use Rattle.model.specs.Sums.{sumOver, joinOver}
-use Rattle.model.specs.Content.{Scenario, Content}
+use lib.ListN.{length}
+use Rattle.model.specs.Sums.{joinOver}
+use Rattle.model.specs.Content.{Content}
 use Rattle.model.specs.Format.{Record, openingRec, closingRec, targetRecords, scenarioRecords, leaksOf, openRecords, countOf, recordsOf}
-use Rattle.model.specs.Valid.{Each, ValidScenario, Valid}
+use Rattle.model.specs.Valid.{Each, Valid}
 use Rattle.model.specs.Faults.{Context, context, start, startCounts, counted, ownFault, fault, contextAfter, contextAfterAll}
-use Rattle.model.specs.MachineTheorems.{Allowed, AllAllowed}
+use Rattle.model.specs.MachineTheorems.{AllAllowed}
 use Rattle.model.specs.Verdict.{contentOf}
 use Rattle.model.proofs.SumBounds.{leaks-le}
 use Rattle.model.proofs.Accepts.{Accepts, Fits}
-use Rattle.model.proofs.FaultLaws.{opening-order, closing-order, closing-free, fault-free}
-use Rattle.model.proofs.ContextLaws.{extended, continued, kindAfter, nextAfterAll, after-append, records-counted, after-scenarios, after-targets}
-use Rattle.model.proofs.AcceptLaws.{AllOwn, accepts-from, allowed-append, own-append, each-append}
-use Rattle.model.proofs.Shape.{scenarios-allowed, targets-allowed}
+use Rattle.model.proofs.FaultLaws.{closing-order, closing-free, fault-free}
+use Rattle.model.proofs.ContextLaws.{begun, extended, continued, kindAfter, nextAfterAll, after-append, records-counted, after-scenarios, after-targets}
+use Rattle.model.proofs.AcceptLaws.{AllOwn, accepts-from, own-append, each-append}
+use Rattle.model.proofs.Shape.{numberedFrom, numbered-records, opening-allowed}
 use Rattle.model.proofs.OwnLaws.{scenarios-own, scenarios-fit, targets-own, targets-fit}
 use Rattle.model.proofs.PartsLaws.{content-open}
-
--- after the opening
-abbrev pub begun : Context
-begun = context (counted startCounts) [] 0 0 0
 
 -- what is known after all records of a content but the closing one
 pub record OpenCounts (c : Content) (x : Context) : Type 0 where
@@ -51,15 +46,11 @@ module _ (c : Content) where
       ∙ after-scenarios (c .scenarios) (extended (counted startCounts) (length (c .targets))) 0 0
 
   pub open-allowed : AllAllowed start (openRecords c)
-  unfolding AllAllowed contextAfter openRecords
-  open-allowed = (
-    opening-order _ _ _ _ refl,
-    omega arith,
-    allowed-append begun (targetRecords 0 (c .targets)) (joinOver scenarioRecords (c .scenarios))
-        (targets-allowed 0 (c .targets) (counted startCounts) 0 0 (omega arith) refl)
-        (rw (after-targets 0 (c .targets) (counted startCounts) 0 0)
-        (scenarios-allowed (c .scenarios) (extended (counted startCounts) (length (c .targets))) 0 0 (omega arith))),
-  )
+  unfolding openRecords
+  open-allowed =
+      subst (λ (l : List Record). AllAllowed start (openingRec (c .number) ∷ l ++ joinOver scenarioRecords (c .scenarios)))
+      (sym (numbered-records 0 (c .targets)))
+      (opening-allowed (c .number) (numberedFrom 0 (c .targets)) (c .scenarios))
 
   open-own : Valid c → AllOwn start (openRecords c)
   unfolding AllOwn ownFault contextAfter openRecords

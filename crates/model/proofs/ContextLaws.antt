@@ -1,5 +1,5 @@
 -- What is known after the records of effects, trees, scenarios and targets. Assumes nothing.
-use mathlib.Core.Path.{_≡_, refl, sym, _∙_, ap}
+use mathlib.Core.Path.{_≡_, refl, _∙_, ap}
 use mathlib.Core.List.{List, [], _∷_, _++_}
 use Prim.Native.Nat.{ℕ, suc, _+_, _-_}
 use native.Mathlib.Omega.{arith}
@@ -8,7 +8,7 @@ use Rattle.state.specs.declared.Counts.{Counts}
 use Rattle.model.specs.Sums.{sumOver, joinOver}
 use Rattle.model.specs.Content.{Target, Effect, targetOf, Tree, outcome, branching, Scenario}
 use Rattle.model.specs.Format.{Record, openingRec, targetRec, leakRec, branchingRec, outcomeRec, effectRec, closingRec, targetRecords, effectRecords, treeRecords, scenarioRecords}
-use Rattle.model.specs.Faults.{Context, context, declaring, leaking, contextAfter, contextAfterAll}
+use Rattle.model.specs.Faults.{Context, context, counted, startCounts, declaring, leaking, contextAfter, contextAfterAll}
 use Rattle.model.specs.MachineTheorems.{Numbered}
 use Rattle.model.proofs.SumBounds.{length-effects}
 
@@ -32,6 +32,10 @@ pub records-counted : (x : Context) (rs : List Record) → contextAfterAll x rs 
 unfolding contextAfterAll
 records-counted x [] = omega arith
 records-counted x (r ∷ rs) = let h = record-counted x r in let i = records-counted (contextAfter x r) rs in omega arith
+
+-- after the opening
+abbrev pub begun : Context
+begun = context (counted startCounts) [] 0 0 0
 
 -- n records more, none of them a target or a leak; n targets more
 abbrev pub advanced : Counts → ℕ → Counts

@@ -1,22 +1,20 @@
 -- What it means that a record has no fault, rule by rule and in both directions. Assumes nothing.
 use mathlib.Core.Path.{_≡_, refl, sym}
 use mathlib.Core.Bool.{Bool, true, false}
-use mathlib.Core.Logic.{_↔_}
-use Prim.Native.Nat.{ℕ, suc, _+_, _<_, _≤_}
+use Prim.Native.Nat.{ℕ, _+_, _<_, _≤_}
 use native.Mathlib.Decide.{decLe, ℕ-discrete}
 use native.Mathlib.Omega.{arith}
 use lib.Dec.{eqb, leb, ltb}
-use lib.ListN.{length, getD}
 use borrow.Author.Tests.{eqb-true, eqb-false, leb-true, leb-false, ltb-true, ltb-false}
 use Rattle.numeric.specs.Choice.{pick, ifEq, ifLe, ifLt}
 use Rattle.numeric.specs.Share.{certain}
 use Rattle.numeric.proofs.ChoiceLaws.{eq-case, ne-case, le-case, gt-case, lt-case, ge-case}
 use Rattle.terms.specs.Terms.{noEffect, fireball, flashFire, people}
 use Rattle.model.specs.Bounds.{mostTargets, mostScenarios, mostRecords, mostAbove, mostVolume, leastFrequency, mostFrequency, mostEffects, mostKind, mostClass, mostSetting}
-use Rattle.model.specs.Content.{Target, facts, Effect, targetOf, intensity, duration}
+use Rattle.model.specs.Content.{Target, facts}
 use Rattle.model.specs.Format.{Record}
 use Rattle.model.specs.Valid.{ValidTarget}
-use Rattle.model.specs.Faults.{Context, role, orderFault, targetFault, leakFault, branchingFault, outcomeFault, namingFault, effectFault, closingFault, ownFault, fault}
+use Rattle.model.specs.Faults.{Context, orderFault, targetFault, leakFault, branchingFault, outcomeFault, namingFault, effectFault, closingFault, ownFault, fault}
 use Rattle.model.specs.MachineTheorems.{Allowed}
 
 -- a choice that is 0, case by case

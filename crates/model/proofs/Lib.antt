@@ -32,3 +32,5 @@ pub mod PartsLaws
 pub mod Complete
 pub mod Sound
 pub mod ClosedLaws
+pub mod Closing
+pub mod OrderLaws

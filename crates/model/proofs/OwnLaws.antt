@@ -1,21 +1,21 @@
 -- Records keep the rules of their own kinds and fit their bytes exactly when the parts of a study that they belong to are valid. Assumes nothing.
-use mathlib.Core.Path.{_≡_, refl, sym, _∙_, ap, ap₂, subst}
-use mathlib.Core.List.{List, [], _∷_, _++_}
+use mathlib.Core.Path.{_≡_, refl, sym, _∙_, ap₂}
+use mathlib.Core.List.{List, [], _∷_}
 use Prim.Native.Nat.{ℕ, suc, _+_, _-_, _^_, _<_, _≤_}
 use native.Mathlib.Numerals.{add-one}
 use native.Mathlib.Decide.{ℕ-discrete}
 use native.Mathlib.Omega.{arith}
 use lib.ListN.{length}
 use Rattle.state.specs.declared.Counts.{Counts}
-use Rattle.model.specs.Bounds.{mostTargets, mostScenarios, leastFrequency, mostFrequency}
+use Rattle.model.specs.Bounds.{mostTargets, mostScenarios}
 use Rattle.model.specs.Sums.{joinOver}
-use Rattle.model.specs.Content.{Branching, given, chance, Target, described, Effect, inSeconds, targetOf, intensity, duration, Tree, outcome, branching, Scenario}
-use Rattle.model.specs.Format.{Record, targetRec, leakRec, targetRecords, effectRecords, treeRecords, scenarioRecords}
-use Rattle.model.specs.Valid.{Each, RiseFrom, ValidTarget, ValidEffect, ValidOutcome, ValidTree, ValidScenario}
-use Rattle.model.specs.Faults.{Context, context, declaring, leaking, ownFault, contextAfter, contextAfterAll}
+use Rattle.model.specs.Content.{given, chance, Target, described, Effect, inSeconds, targetOf, intensity, duration, Tree, outcome, branching, Scenario}
+use Rattle.model.specs.Format.{Record, targetRec, targetRecords, effectRecords, treeRecords, scenarioRecords}
+use Rattle.model.specs.Valid.{Each, RiseFrom, ValidTarget, ValidEffect, ValidTree, ValidScenario}
+use Rattle.model.specs.Faults.{context, declaring, leaking, ownFault, contextAfter}
 use Rattle.model.specs.MachineTheorems.{Numbered}
 use Rattle.model.proofs.Accepts.{Fits}
-use Rattle.model.proofs.FaultLaws.{target-facts, target-free, LeakTaken, leak-facts, leak-free, branching-facts, branching-free, OutcomeTaken, outcome-facts, outcome-free, EffectTaken, effect-facts, effect-free}
+use Rattle.model.proofs.FaultLaws.{target-facts, target-free, LeakTaken, leak-facts, leak-free, branching-facts, branching-free, outcome-facts, outcome-free, effect-facts, effect-free}
 use Rattle.model.proofs.ContextLaws.{advanced, kindAtEnd, nextAtEnd, numberedRecord, after-tree}
 use Rattle.model.proofs.AcceptLaws.{AllOwn, own-append, own-parts, each-append, each-parts}
 

@@ -1,11 +1,11 @@
 -- The content that is read from the records of a content is that content. Assumes nothing.
-use mathlib.Core.Path.{_≡_, refl, sym, _∙_, ap}
+use mathlib.Core.Path.{_≡_, refl, _∙_, ap}
 use mathlib.Core.List.{List, [], _∷_, _++_, append-assoc, append-nil}
 use Prim.Native.Nat.{ℕ, suc}
-use lib.ListN.{length, getD, drop}
+use lib.ListN.{getD, drop}
 use Rattle.model.specs.Sums.{joinOver}
 use Rattle.model.specs.Content.{Branching, Target, Effect, Tree, outcome, branching, Scenario, Content}
-use Rattle.model.specs.Format.{Record, openingRec, leakRec, branchingRec, outcomeRec, targetRecords, effectRecords, treeRecords, scenarioRecords, openRecords}
+use Rattle.model.specs.Format.{Record, targetRecords, effectRecords, treeRecords, scenarioRecords, openRecords}
 use Rattle.model.specs.Verdict.{Parts, parts, someTree, partsOf, contentOf}
 
 -- what a record in front makes of parts

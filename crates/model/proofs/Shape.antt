@@ -10,8 +10,8 @@ use Rattle.model.specs.Content.{Branching, Target, Effect, targetOf, Tre
 use Rattle.model.specs.Format.{Record, openingRec, targetRec, leakRec, branchingRec, outcomeRec, effectRec, closingRec, targetRecords, effectRecords, treeRecords, scenarioRecords}
 use Rattle.model.specs.Faults.{context, counted, declaring, leaking, startCounts, start, contextAfter, contextAfterAll}
 use Rattle.model.specs.MachineTheorems.{Numbered, Allowed, AllAllowed}
-use Rattle.model.proofs.FaultLaws.{order-facts, opening-order, effect-order, branching-order, outcome-order, target-order, leak-order, closing-order}
-use Rattle.model.proofs.ContextLaws.{advanced, kindAtEnd, nextAtEnd, numberedRecord, after-tree}
+use Rattle.model.proofs.FaultLaws.{order-facts, opening-order, effect-order, branching-order, outcome-order, target-order, leak-order}
+use Rattle.model.proofs.ContextLaws.{begun, advanced, extended, kindAtEnd, nextAtEnd, numberedRecord, after-tree, after-numbered}
 use Rattle.model.proofs.AcceptLaws.{allowed-append}
 
 pub effects-allowed : (es : List Effect) (k : Counts) (trees : List ℕ) (left kind next : ℕ) → 0 < k .records → left ≡ length es
@@ -54,6 +54,17 @@ unfolding AllAllowed contextAfter joinOver
 numbered-allowed [] k kind next h i = tt
 numbered-allowed (t ∷ ts) k kind next h i =
     (target-order _ _ _ _ h refl refl i, omega arith, numbered-allowed ts (declaring k) kind next (omega arith) i)
+
+-- an opening, then targets, then scenarios
+pub opening-allowed : (study : ℕ) (ts : List Numbered) (ss : List Scenario)
+    → AllAllowed start (openingRec study ∷ joinOver numberedRecord ts ++ joinOver scenarioRecords ss)
+unfolding AllAllowed contextAfter
+opening-allowed study ts ss = (
+  opening-order _ _ _ _ refl,
+  omega arith,
+  allowed-append begun (joinOver numberedRecord ts) (joinOver scenarioRecords ss) (numbered-allowed ts (counted startCounts) 0 0 (omega arith) refl)
+      (rw (after-numbered ts (counted startCounts) 0 0) (scenarios-allowed ss (extended (counted startCounts) (length ts)) 0 0 (omega arith))),
+)
 
 -- Some effects, then some trees, then scenarios.
 pub record Inside (left trees : ℕ) (rs : List Record) : Type 0 where
@@ -204,11 +215,7 @@ abbrev pub numberedFrom : ℕ → List Target → List Numbered
 numberedFrom n [] = []
 numberedFrom n (t ∷ ts) = record { number = n; target = t } ∷ numberedFrom (suc n) ts
 
-numbered-records : (n : ℕ) (ts : List Target) → targetRecords n ts ≡ joinOver numberedRecord (numberedFrom n ts)
+pub numbered-records : (n : ℕ) (ts : List Target) → targetRecords n ts ≡ joinOver numberedRecord (numberedFrom n ts)
 unfolding targetRecords joinOver
 numbered-records n [] = refl
 numbered-records n (t ∷ ts) = ap (λ (l : List Record). targetRec n t ∷ l) (numbered-records (suc n) ts)
-
-pub targets-allowed : (n : ℕ) (ts : List Target) (k : Counts) (kind next : ℕ) → 0 < k .records → k .scenarios ≡ 0
-    → AllAllowed (context k [] 0 kind next) (targetRecords n ts)
-targets-allowed n ts k kind next h i = rw (numbered-records n ts) (numbered-allowed (numberedFrom n ts) k kind next h i)

@@ -1,24 +1,24 @@
 -- Records that are taken up to a closing one are those of a valid content, closed with its count and its sum. Assumes nothing.
 use mathlib.Core.Path.{_≡_, refl, sym, _∙_, ap, subst}
-use mathlib.Core.List.{List, [], _∷_, _++_}
-use Prim.Native.Nat.{ℕ, _+_}
+use mathlib.Core.List.{List, _∷_, _++_}
+use Prim.Native.Nat.{ℕ}
 use native.Mathlib.Nat.{zero-add}
 use native.Mathlib.Omega.{arith}
 use lib.ListN.{length}
 use Rattle.model.specs.Sums.{joinOver}
 use Rattle.model.specs.Content.{Content}
 use Rattle.model.specs.Format.{Record, openingRec, closingRec, targetRecords, scenarioRecords, leaksOf, openRecords, countOf}
-use Rattle.model.specs.Valid.{Each, ValidScenario, Valid}
-use Rattle.model.specs.Faults.{context, start, startCounts, counted, ownFault, fault, contextAfter, contextAfterAll}
+use Rattle.model.specs.Valid.{Each, Valid}
+use Rattle.model.specs.Faults.{start, startCounts, counted, ownFault, fault, contextAfter, contextAfterAll}
 use Rattle.model.specs.Verdict.{contentOf}
 use Rattle.model.proofs.Accepts.{Accepts, Fits}
 use Rattle.model.proofs.FaultLaws.{closing-facts, fault-facts}
-use Rattle.model.proofs.ContextLaws.{extended, numberedRecord, after-targets}
+use Rattle.model.proofs.ContextLaws.{begun, extended, numberedRecord, after-targets}
 use Rattle.model.proofs.AcceptLaws.{AllOwn, accepts-order, accepts-own, own-parts, each-parts}
 use Rattle.model.proofs.Shape.{Opened, opened}
 use Rattle.model.proofs.OwnLaws.{bare, numbered-places, targets-valid, scenarios-valid}
 use Rattle.model.proofs.PartsLaws.{content-open}
-use Rattle.model.proofs.Complete.{begun, open-counts}
+use Rattle.model.proofs.Complete.{open-counts}
 
 pub record AcceptedValid (rs : List Record) (n s : ℕ) : Type 0 where
   pub valid : Valid (contentOf rs)

@@ -2,12 +2,13 @@
 use mathlib.Core.Path.{_≡_}
 use mathlib.Core.Logic.{_↔_, _⊎_}
 use mathlib.Core.List.{List, [], _∷_, _++_, map}
-use Prim.Native.Nat.{ℕ, _+_, _*_, _^_, _<_}
-use lib.ListN.{length}
+use Prim.Native.Nat.{ℕ, _+_, _*_, _^_, _<_, _≤_}
+use lib.ListN.{length, getD}
 use Rattle.numeric.specs.Choice.{ifEq}
 use Rattle.state.specs.declared.Branch.{Branch}
 use Rattle.state.specs.declared.Totals.{Totals}
 use Rattle.state.specs.declared.TargetReport.{TargetReport}
+use Rattle.model.specs.Bounds.{mostTargets, mostScenarios, mostRecords, mostFrequency}
 use Rattle.model.specs.Content.{Target, Scenario, Content}
 use Rattle.model.specs.Sums.{sumOver, joinOver}
 use Rattle.model.specs.Format.{Record, openingRec, targetRec, closingRec, scenarioRecords, leaksOf, openRecords, bytesOf}
@@ -131,3 +132,19 @@ seenOf o = record { kind = o .kind; leak = o .leak; frequency = o .frequency; ab
 -- the machine holds each outcome of the meaning, in order, with the meaning's kind, leak, frequency and branchings above
 abbrev pub OutcomesAreTheMeanings : Type 0
 OutcomesAreTheMeanings = (c : Content) → Valid c → seenIn fresh (openRecords c) ≡ map seenOf (outcomesOf c)
+
+-- No sum of the machine stops at the greatest number of its memory on a study that calls made: all stay far below.
+pub record FarBelow (s : State) : Type 0 where
+  pub place : s .core .reading .place ≤ 13 * mostRecords + 12
+  pub records : s .core .counts .records ≤ mostRecords
+  pub targets : s .core .counts .targets ≤ mostTargets
+  pub scenarios : s .core .counts .scenarios ≤ mostScenarios
+  pub leaks : s .core .counts .leaks ≤ mostScenarios * mostFrequency
+  pub height : s .core .branch .height ≤ 9
+  pub kinds : s .core .tally .kind0 + s .core .tally .kind1 + s .core .tally .kind2 + s .core .tally .kind3 + s .core .tally .kind4 + s .core .tally .kind5 ≤ mostScenarios * mostFrequency
+  pub unjudged : s .core .tally .unjudged ≤ mostRecords
+  pub sums : (t : ℕ) → getD (s .sums) t 0 ≤ mostScenarios * mostFrequency
+  pub margins : (t : ℕ) → getD (s .margins) t 0 ≤ 9000000
+
+abbrev pub NeverSaturates : Type 0
+NeverSaturates = (cs : List Call) → Each Callable cs → FarBelow (stateAfterAll fresh cs)
