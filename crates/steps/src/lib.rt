@@ -1,0 +1,31 @@
+// What each record does to the parts of a study that go by value (the machine of the crate model).
+mod reading;
+mod counting;
+mod tallying;
+mod rows;
+mod reports;
+
+pub use reading::begin;
+pub use reading::grow;
+pub use reading::take;
+pub use reading::refuse;
+pub use reading::piece_number;
+pub use reading::piece_place;
+pub use counting::count_record;
+pub use counting::count_target;
+pub use counting::count_leak;
+pub use counting::pack;
+pub use counting::enter_leak;
+pub use counting::enter_branching;
+pub use counting::enter_outcome;
+pub use counting::enter_effect;
+pub use tallying::tally_study;
+pub use tallying::tally_outcome;
+pub use tallying::tally_effect;
+pub use rows::pack_facts;
+pub use rows::unpack_facts;
+pub use rows::add_effect;
+pub use reports::report_totals;
+pub use reports::refused_target;
+pub use reports::report_row;
+pub use reports::marked;
