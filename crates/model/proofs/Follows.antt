@@ -31,12 +31,12 @@ unfoldable pub aboves : List ℕ → List ℕ
 aboves [] = []
 aboves (x ∷ l) = aboveOf x ∷ aboves l
 
-aboves-length : (l : List ℕ) → length (aboves l) ≡ length l
+pub aboves-length : (l : List ℕ) → length (aboves l) ≡ length l
 unfolding aboves
 aboves-length [] = refl
 aboves-length (x ∷ l) = ap suc (aboves-length l)
 
-pile-length : (l : List ℕ) (n : ℕ) → length (pile l n) ≡ n
+pub pile-length : (l : List ℕ) (n : ℕ) → length (pile l n) ≡ n
 unfolding pile
 pile-length l zero = refl
 pile-length l (suc n) = ap suc (pile-length l n)
@@ -77,11 +77,11 @@ pub record Follows (s : State) (x : Context) : Type 0 where
   pub leaks : x .counts .leaks ≤ x .counts .scenarios * mostFrequency
 
 -- the height is the number of trees
-height-is : (s : State) (x : Context) → Follows s x → s .core .branch .height ≡ length (x .trees)
+pub height-is : (s : State) (x : Context) → Follows s x → s .core .branch .height ≡ length (x .trees)
 height-is s x f =
     sym (ap length (sym (f .trees)) ∙ aboves-length (pile (s .stack) (s .core .branch .height)) ∙ pile-length (s .stack) (s .core .branch .height))
 
-placed-few : (l : List ℕ) → Placed l → length l ≤ 9
+pub placed-few : (l : List ℕ) → Placed l → length l ≤ 9
 unfolding Placed
 placed-few [] p = omega arith
 placed-few (a ∷ l) p = omega (arith, p .0, p .1)
@@ -146,7 +146,7 @@ order-tree records left trees scenarios k n1 n6 n2 n3 n7 e =
 -- ---- each kind of record keeps Follows
 
 -- the counts, where there is room for a record
-one-record : (k : Counts) → k .records < mostRecords → oneRecord k ≡ counted k
+pub one-record : (k : Counts) → k .records < mostRecords → oneRecord k ≡ counted k
 unfolding oneRecord
 one-record k h = let m : min (k .records + 1) most32 ≡ k .records + 1 = omega arith in rw m refl
 
@@ -186,7 +186,7 @@ pub store-length : (n : ℕ) (l : List ℕ) (i v : ℕ) → i < n → length (st
 store-length n l i v h = ap length (store-set n l i v h) ∙ length-set l i v
 
 -- the pile after a leak and after a branching
-leak-pile : (l : List ℕ) (f : ℕ) → length l ≡ 9 → pile (leakStack l f) 1 ≡ packed f 0 ∷ []
+pub leak-pile : (l : List ℕ) (f : ℕ) → length l ≡ 9 → pile (leakStack l f) 1 ≡ packed f 0 ∷ []
 unfolding leakStack pile
 leak-pile l f n = ap (λ (u : List ℕ). pile u 1) (store-set 9 l 0 (packed f 0) (omega arith)) ∙ pile-push l 0 (packed f 0) (omega arith)
 
@@ -194,7 +194,7 @@ top-is : (l : List ℕ) (n : ℕ) → suc n ≤ 9 → top l (suc n) ≡ getD l n
 unfolding top
 top-is l n h = let e : suc n - 1 ≡ n = omega arith in sym (ne-case _ _ _ _ (omega arith) (le-case _ _ _ _ h (rw e refl)))
 
-branch-pile : (l : List ℕ) (n p : ℕ) → length l ≡ 9 → suc n < 9
+pub branch-pile : (l : List ℕ) (n p : ℕ) → length l ≡ 9 → suc n < 9
     → pile (branchStack l (suc n) p) (suc (suc n))
     ≡ packed (splitOf (frequencyOf (getD l n 0)) p .first) (aboveOf (getD l n 0) + 1) ∷ packed (splitOf (frequencyOf (getD l n 0)) p .second) (aboveOf (getD l n 0) + 1) ∷ pile l n
 unfolding branchStack
