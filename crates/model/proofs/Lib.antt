@@ -36,3 +36,4 @@ pub mod Closing
 pub mod OrderLaws
 pub mod StateBounds
 pub mod FarBelowLaws
+pub mod FetchLaws
