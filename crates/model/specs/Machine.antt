@@ -206,8 +206,11 @@ abbrev pub core : Reading → Counts → Branch → Tally → Core
 core h k b y = record { reading = h; counts = k; branch = b; tally = y }
 
 -- the figures of one target
+abbrev pub rowOf : List ℕ → List ℕ → List ℕ → ℕ → Row
+rowOf sums margins facts t = record { sum = getD sums t 0; margin = getD margins t 0; facts = getD facts t 0 }
+
 abbrev pub rowAt : State → ℕ → Row
-rowAt s t = record { sum = getD (s .sums) t 0; margin = getD (s .margins) t 0; facts = getD (s .facts) t 0 }
+rowAt s t = rowOf (s .sums) (s .margins) (s .facts) t
 
 -- what an effect does, in a study whose target has a judged chance
 unfoldable pub effectState : State → ℕ → Judged → State

@@ -1,11 +1,12 @@
 // The counts of a study, and where in a tree the reading stands.
 ghost use mathlib.Core.Path.{_≡_};
 ghost use Prim.Native.Nat.{_+_, _-_, min};
-ghost use Rattle.model.specs.Machine.{oneRecord, oneTarget, oneLeak, packed, leakBranch, branchedBranch, outcomeBranch, effectBranch};
+ghost use Rattle.numeric.specs.Share.{splitOf};
+ghost use Rattle.model.specs.Machine.{oneRecord, oneTarget, oneLeak, packed, frequencyOf, aboveOf, leakBranch, branchedBranch, outcomeBranch, effectBranch};
 use state::Branch;
 use state::Counts;
 
-pub fn count_record(k: Counts) -> Counts
+pub(crate) fn count_record(k: Counts) -> Counts
     ensures { λ r. ⌜ r ≡ oneRecord k ⌝ }
 {
     Counts {
@@ -17,7 +18,7 @@ pub fn count_record(k: Counts) -> Counts
     }
 }
 
-pub fn count_target(k: Counts) -> Counts
+pub(crate) fn count_target(k: Counts) -> Counts
     ensures { λ r. ⌜ r ≡ oneTarget k ⌝ }
 {
     Counts {
@@ -29,7 +30,7 @@ pub fn count_target(k: Counts) -> Counts
     }
 }
 
-pub fn count_leak(k: Counts, number: u32, frequency: u64) -> Counts
+pub(crate) fn count_leak(k: Counts, number: u32, frequency: u64) -> Counts
     ensures { λ r. ⌜ r ≡ oneLeak k number frequency ⌝ }
 {
     Counts {
@@ -51,7 +52,26 @@ pub fn pack(frequency: u64, above: u8) -> u64
     18_446_744_073_709_551_615
 }
 
-pub fn enter_leak(b: Branch, frequency: u64) -> Branch
+// Both branches of a tree, packed, under one branching more.
+pub struct PackedBranches {
+    pub first: u64,
+    pub second: u64,
+}
+
+pub fn pack_branches(tree: u64, chance: u32) -> PackedBranches
+    ensures { λ r. ⌜ (r .first ≡ packed (splitOf (frequencyOf tree) chance .first) (aboveOf tree + 1)) × (r .second ≡ packed (splitOf (frequencyOf tree) chance .second) (aboveOf tree + 1)) ⌝ }
+{
+    let above = (tree % 16) as u8 + 1;
+    let both = numeric::split(tree / 16, chance);
+    let first = pack(both.first, above);
+    let second = pack(both.second, above);
+    PackedBranches {
+        first: first,
+        second: second,
+    }
+}
+
+pub(crate) fn enter_leak(b: Branch, frequency: u64) -> Branch
     ensures { λ r. ⌜ r ≡ leakBranch b frequency ⌝ }
 {
     Branch {
@@ -71,7 +91,7 @@ fn one_higher(height: u8) -> u8
     if height < 9 { height + 1 } else { 9 }
 }
 
-pub fn enter_branching(b: Branch) -> Branch
+pub(crate) fn enter_branching(b: Branch) -> Branch
     ensures { λ r. ⌜ r ≡ branchedBranch b ⌝ }
 {
     Branch {
@@ -98,7 +118,7 @@ fn one_less16(x: u16) -> u16
 }
 
 // An outcome takes the next tree, as it is packed, and its effects begin.
-pub fn enter_outcome(b: Branch, tree: u64, kind: u8, effects: u16) -> Branch
+pub(crate) fn enter_outcome(b: Branch, tree: u64, kind: u8, effects: u16) -> Branch
     ensures { λ r. ⌜ r ≡ outcomeBranch b tree kind effects ⌝ }
 {
     Branch {
@@ -112,7 +132,7 @@ pub fn enter_outcome(b: Branch, tree: u64, kind: u8, effects: u16) -> Branch
     }
 }
 
-pub fn enter_effect(b: Branch, target: u16) -> Branch
+pub(crate) fn enter_effect(b: Branch, target: u16) -> Branch
     ensures { λ r. ⌜ r ≡ effectBranch b target ⌝ }
 {
     Branch {

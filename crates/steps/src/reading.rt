@@ -49,7 +49,7 @@ pub fn grow(h: Reading) -> Reading
 }
 
 // A record is taken, and the study goes on in a phase.
-pub fn take(h: Reading, phase: u8) -> Reading
+pub(crate) fn take(h: Reading, phase: u8) -> Reading
     ensures { λ r. ⌜ r ≡ taken h phase ⌝ }
 {
     Reading {

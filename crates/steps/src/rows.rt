@@ -1,8 +1,11 @@
 // What a study keeps of one target.
 ghost use mathlib.Core.Path.{_≡_};
+ghost use Rattle.terms.specs.Terms.{seconds};
+ghost use Rattle.vulnerability.specs.Effect.{effectOn};
 ghost use Rattle.model.specs.Machine.{packedFacts, unpackedFacts, markedFacts, rowAfter};
 use state::Branch;
 use state::Row;
+use terms::Judged;
 use terms::Target;
 
 // A target's facts in one number, the lowest bit its mark on the domino list.
@@ -15,7 +18,7 @@ pub fn pack_facts(f: Target) -> u64
     volume * 64 + class * 8 + setting * 2
 }
 
-pub fn unpack_facts(x: u64) -> Target
+fn unpack_facts(x: u64) -> Target
     ensures { λ r. ⌜ r ≡ unpackedFacts x ⌝ }
 {
     Target {
@@ -23,6 +26,13 @@ pub fn unpack_facts(x: u64) -> Target
         setting: (x / 2 % 4) as u8,
         volume: (x / 64 % 4_294_967_296) as u32,
     }
+}
+
+// The chance of an effect on the target with these facts, in the outcome at hand, and whether a rule judged it.
+pub fn judge_effect(b: Branch, facts: u64, intensity: u32, duration: u16) -> Judged
+    ensures { λ r. ⌜ r ≡ effectOn seconds (unpackedFacts facts) (b .kind) intensity duration ⌝ }
+{
+    vulnerability::effect(unpack_facts(facts), b.kind, intensity, duration)
 }
 
 // Equipment is marked by an effect that lists it.

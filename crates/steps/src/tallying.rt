@@ -4,7 +4,7 @@ ghost use Rattle.numeric.specs.Choice.{pick};
 ghost use Rattle.model.specs.Machine.{studyTally, kindGrown, outcomeTally, effectTally};
 use state::Tally;
 
-pub fn tally_study(y: Tally, number: u32) -> Tally
+pub(crate) fn tally_study(y: Tally, number: u32) -> Tally
     ensures { λ r. ⌜ r ≡ studyTally y number ⌝ }
 {
     Tally {
@@ -29,7 +29,7 @@ fn grown_kind(kind: u8, i: u8, frequency: u64, total: u64) -> u64
     total
 }
 
-pub fn tally_outcome(y: Tally, kind: u8, frequency: u64) -> Tally
+pub(crate) fn tally_outcome(y: Tally, kind: u8, frequency: u64) -> Tally
     ensures { λ r. ⌜ r ≡ outcomeTally y kind frequency ⌝ }
 {
     Tally {
@@ -53,7 +53,7 @@ fn not_judged(judged: bool) -> u32
     1
 }
 
-pub fn tally_effect(y: Tally, judged: bool) -> Tally
+pub(crate) fn tally_effect(y: Tally, judged: bool) -> Tally
     ensures { λ r. ⌜ r ≡ effectTally y judged ⌝ }
 {
     Tally {
