@@ -1,19 +1,18 @@
 // The study: read in pieces, and reported once it is closed (document 01).
 mod faults;
-mod records;
 mod pieces;
+mod records;
 mod reports;
 
 ghost use mathlib.Core.Path.{_≡_};
 ghost use Rattle.model.specs.Machine.{fresh};
 ghost use Rattle.study.specs.View.{view};
+pub use pieces::Taken;
 use state::Branch;
 use state::Core;
 use state::Counts;
 use state::Reading;
 use state::Tally;
-
-pub use pieces::Taken;
 
 // A study being read, by value. No field is public: only a report shows a figure, and none before the end.
 pub struct Study {
@@ -31,17 +30,27 @@ pub struct Study {
 // The bounds of a study.
 impl Study {
     pub const MOST_TARGETS: u16 = 256;
+
     pub const MOST_SCENARIOS: u32 = 65_536;
+
     pub const MOST_RECORDS: u32 = 1_000_000;
     // branchings above a branching
     pub const MOST_ABOVE: u8 = 7;
+
     pub const MOST_VOLUME: u32 = 100_000;
+
     pub const LEAST_FREQUENCY: u64 = 1;
+
     pub const MOST_FREQUENCY: u64 = 10_000_000_000_000;
+
     pub const MOST_EFFECTS: u16 = 256;
+
     pub const MOST_CHANCE: u32 = 1_000_000;
+
     pub const MOST_KIND: u8 = 5;
+
     pub const MOST_CLASS: u8 = 5;
+
     pub const MOST_SETTING: u8 = 2;
 
     // A study of which nothing is read yet.

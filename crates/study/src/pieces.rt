@@ -29,7 +29,15 @@ impl Study {
         let before = core.reading.place;
         let mut i = 0;
         while i < bytes.len() {
-            core = read_byte(core, bytes[i], &mut pending, &mut stack, &mut sums, &mut margins, &mut facts);
+            core = read_byte(
+                core,
+                bytes[i],
+                &mut pending,
+                &mut stack,
+                &mut sums,
+                &mut margins,
+                &mut facts,
+            );
             i += 1;
         }
         let h = core.reading;

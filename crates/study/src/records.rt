@@ -7,7 +7,14 @@ use crate::faults::fault;
 use state::Core;
 
 // The record in the pending bytes is taken, or refused at its first byte.
-fn record_read(c: Core, p: &[u8; 16], stack: &mut [u64; 9], sums: &mut [u64; 256], margins: &mut [u32; 256], facts: &mut [u64; 256]) -> Core
+fn record_read(
+    c: Core,
+    p: &[u8; 16],
+    stack: &mut [u64; 9],
+    sums: &mut [u64; 256],
+    margins: &mut [u32; 256],
+    facts: &mut [u64; 256],
+) -> Core
     ensures { λ r. ⌜ state r (now (p .entry)) (now (stack .exit)) (now (sums .exit)) (now (margins .exit)) (now (facts .exit)) ≡ recordRead (state c (now (p .entry)) (now (stack .entry)) (now (sums .entry)) (now (margins .entry)) (now (facts .entry))) (decode (now (p .entry))) ⌝ }
 {
     let n = fault(c, p, stack);
@@ -24,7 +31,14 @@ fn one_less(x: u8) -> u8
 }
 
 // The record is read once it is whole.
-fn end_record(c: Core, p: &[u8; 16], stack: &mut [u64; 9], sums: &mut [u64; 256], margins: &mut [u32; 256], facts: &mut [u64; 256]) -> Core
+fn end_record(
+    c: Core,
+    p: &[u8; 16],
+    stack: &mut [u64; 9],
+    sums: &mut [u64; 256],
+    margins: &mut [u32; 256],
+    facts: &mut [u64; 256],
+) -> Core
     ensures { λ r. ⌜ state r (now (p .entry)) (now (stack .exit)) (now (sums .exit)) (now (margins .exit)) (now (facts .exit)) ≡ ended (state c (now (p .entry)) (now (stack .entry)) (now (sums .entry)) (now (margins .entry)) (now (facts .entry))) ⌝ }
 {
     let h = c.reading;
@@ -44,7 +58,15 @@ fn put_pending(p: &mut [u8; 16], at: u8, b: u8)
 }
 
 // One byte more of a record that has begun.
-fn add_byte(c: Core, b: u8, p: &mut [u8; 16], stack: &mut [u64; 9], sums: &mut [u64; 256], margins: &mut [u32; 256], facts: &mut [u64; 256]) -> Core
+fn add_byte(
+    c: Core,
+    b: u8,
+    p: &mut [u8; 16],
+    stack: &mut [u64; 9],
+    sums: &mut [u64; 256],
+    margins: &mut [u32; 256],
+    facts: &mut [u64; 256],
+) -> Core
     ensures { λ r. ⌜ state r (now (p .exit)) (now (stack .exit)) (now (sums .exit)) (now (margins .exit)) (now (facts .exit)) ≡ body (state c (now (p .entry)) (now (stack .entry)) (now (sums .entry)) (now (margins .entry)) (now (facts .entry))) b ⌝ }
 {
     let h = c.reading;
@@ -54,7 +76,15 @@ fn add_byte(c: Core, b: u8, p: &mut [u8; 16], stack: &mut [u64; 9], sums: &mut [
 }
 
 // The study after one byte.
-pub(crate) fn read_byte(c: Core, b: u8, p: &mut [u8; 16], stack: &mut [u64; 9], sums: &mut [u64; 256], margins: &mut [u32; 256], facts: &mut [u64; 256]) -> Core
+pub(crate) fn read_byte(
+    c: Core,
+    b: u8,
+    p: &mut [u8; 16],
+    stack: &mut [u64; 9],
+    sums: &mut [u64; 256],
+    margins: &mut [u32; 256],
+    facts: &mut [u64; 256],
+) -> Core
     ensures { λ r. ⌜ state r (now (p .exit)) (now (stack .exit)) (now (sums .exit)) (now (margins .exit)) (now (facts .exit)) ≡ step (state c (now (p .entry)) (now (stack .entry)) (now (sums .entry)) (now (margins .entry)) (now (facts .entry))) b ⌝ }
 {
     let h = c.reading;

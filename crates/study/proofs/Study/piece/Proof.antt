@@ -26,13 +26,16 @@ read-byte-requires : tie.Need-read-byte-requires Inv-loop μ-loop
 read-byte-requires c κs = search needs
 
 add-i : tie.Need-add-i Inv-loop μ-loop
-add-i c = search needs
+add-i c = omega (arith, c .before .before .before .before .before .before .before .loop-test .taken, c .before .before .before .before .before .before .before .before .before .before .before .before .before .before .before .before .good)
 
 loop-less : tie.Need-loop-less Inv-loop μ-loop
 loop-less c = search needs
 
 loop-again : tie.Need-loop-again Inv-loop μ-loop
-loop-again c = ?
+loop-again c =
+    let v = c .before .before .before .before .before .before .before .before .loop in
+    let h = c .before .before .before .before .before .before .before .loop-test .taken in
+    (omega arith, read-next _ _ _ (c .before .before .before .before .before .before .before .before .before .before .before .before .before .before .before .before .args .bytes .now) (v .i) (v .inv .1) (c .read-byte .ensures) h)
 
 piece-number-requires : tie.Need-piece-number-requires Inv-loop μ-loop
 piece-number-requires c κs = search needs
@@ -41,7 +44,10 @@ piece-place-requires : tie.Need-piece-place-requires Inv-loop μ-loop
 piece-place-requires c κs = search needs
 
 returns : tie.Need-returns Inv-loop μ-loop
-returns c = ?
+returns c =
+    let v = c .before .before .before .before .loop in
+    let e = read-whole _ _ (c .before .before .before .before .before .before .before .before .before .before .before .before .args .bytes .now) (v .i) (v .inv .1) (c .before .before .before .loop-test .left) in
+    (e, (rw (← e) (c .before .piece-number .ensures), rw (← e) (c .piece-place .ensures)))
 
 pub piece-spec : {M : Type 1} → statement M
 piece-spec =

@@ -1,5 +1,5 @@
 -- `study::faults::fault` meets its contract, case by case. Assumes nothing.
-use mathlib.Core.Path.{refl}
+use mathlib.Core.Path.{refl, sym, _∙_}
 use Rattle.numeric.proofs.ChoiceLaws.{eq-case, gt-case, le-case, ne-case}
 use Rattle.model.specs.Machine.{faultIn}
 use borrow.Author.Needs.{needs}
@@ -14,18 +14,27 @@ order-fault-requires c κs = search needs
 
 returns : tie.Need-returns
 unfolding faultIn
-returns c = eq-case _ _ _ _ (search needs) (le-case _ _ _ _ (search needs) (refl))
+returns c =
+    let e = c .before .before .before .order-fault .ensures in
+    let q = c .before .before .before .before .role-of .ensures in
+    eq-case _ _ _ _ (rw (← q) (sym e ∙ c .before .before .if1 .taken)) (le-case _ _ _ _ (search needs) refl)
 
 own-fault-requires : tie.Need-own-fault-requires
 own-fault-requires c κs = search needs
 
 returns-2 : tie.Need-returns-2
 unfolding faultIn
-returns-2 c = eq-case _ _ _ _ (search needs) (gt-case _ _ _ _ (search needs) (cc))
+returns-2 c =
+    let e = c .before .before .before .before .order-fault .ensures in
+    let q = c .before .before .before .before .before .role-of .ensures in
+    eq-case _ _ _ _ (rw (← q) (sym e ∙ c .before .before .before .if1 .taken)) (gt-case _ _ _ _ (search needs) (c .own-fault .ensures))
 
 returns-3 : tie.Need-returns-3
 unfolding faultIn
-returns-3 c = ne-case _ _ _ _ (search needs) (refl)
+returns-3 c =
+    let e = c .before .order-fault .ensures in
+    let q = c .before .before .role-of .ensures in
+    ne-case _ _ _ _ (λ z. c .if1 .left (e ∙ rw q z)) refl
 
 pub fault-spec : {M : Type 1} → statement M
 fault-spec =

@@ -20,7 +20,7 @@ record-read-requires c κs = search needs
 
 returns : tie.Need-returns
 unfolding ended
-returns c = le-case _ _ _ _ (search needs) (cc)
+returns c = le-case _ _ _ _ (search needs) (c .record-read .ensures)
 
 returns-2 : tie.Need-returns-2
 unfolding ended

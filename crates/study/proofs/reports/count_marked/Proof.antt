@@ -6,9 +6,8 @@ use native.Mathlib.Omega.{arith}
 use lib.ListN.{length, getD}
 use borrow.Author.Needs.{needs}
 use Rattle.model.specs.Sums.{numbersBelow}
-use Rattle.model.specs.Calls.{front}
 use Rattle.model.specs.Machine.{markOf}
-use Rattle.study.proofs.MarkLaws.{below-none, count-in, count-out, front-none, front-in, front-out, front-length, room}
+use Rattle.study.proofs.MarkLaws.{below-none, count-in, count-out}
 use Rattle.study.proofs.reports.count_marked.Statement.{statement}
 use Rattle.study.proofs.reports.count_marked.Tie as tie
 
@@ -44,10 +43,17 @@ loop-less : tie.Need-loop-less Inv-loop μ-loop
 loop-less c = search needs
 
 loop-again : tie.Need-loop-again Inv-loop μ-loop
-loop-again c = ?
+loop-again c =
+    let v = c .before .before .before .before .loop in
+    let f = c .before .before .before .before .before .args .facts .now in
+    let e = c .before .marked .ensures in
+    ⊎-elim
+    (λ w. let h = count-in (λ k. markOf (getD f k 0)) (v .t) (sym e ∙ w .0 .taken) in omega arith)
+    (λ w. let h = count-out (λ k. markOf (getD f k 0)) (v .t) (sym e ∙ w .0 .left) in omega arith)
+    (c .if1 .came)
 
 returns : tie.Need-returns Inv-loop μ-loop
-returns c = ?
+returns c = let e : _≡_ {A = ℕ} (c .before .loop .t) (c .before .before .args .n) = omega arith in rw (← e) (c .before .loop .inv .1)
 
 pub count-marked-spec : {M : Type 1} → statement M
 count-marked-spec =

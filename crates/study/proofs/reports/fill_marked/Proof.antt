@@ -1,5 +1,6 @@
 -- `study::reports::fill_marked` meets its contract: after t targets the marked ones below t are at the front of the list. Assumes nothing.
 use mathlib.Core.Path.{_≡_, sym, ap, _∙_}
+use mathlib.Core.Bool.{Bool}
 use mathlib.Core.Logic.{⊎-elim}
 use Prim.Native.Nat.{ℕ, _-_, _≤_}
 use native.Mathlib.Omega.{arith}
@@ -35,13 +36,25 @@ marked-requires : tie.Need-marked-requires Inv-loop μ-loop
 marked-requires c κs = search needs
 
 mul-list : tie.Need-mul-list Inv-loop μ-loop
-mul-list c = ?
+mul-list c =
+    let v = c .before .before .before .before .loop in
+    let s = c .before .before .before .before .before .before in
+    let r = room (λ k. markOf (getD (s .args .facts .now) k 0)) (s .args .list .now) (s .args .n) (v .t) (v .count) (v .list) (v .inv .1) (v .inv .2) (s .pre .1) (sym (c .before .marked .ensures) ∙ c .if1 .taken) (c .before .before .before .loop-test .taken) in
+    omega arith
 
 slice-write-list : tie.Need-slice-write-list Inv-loop μ-loop
-slice-write-list c = ?
+slice-write-list c =
+    let v = c .before .before .before .before .loop in
+    let s = c .before .before .before .before .before .before in
+    let r = room (λ k. markOf (getD (s .args .facts .now) k 0)) (s .args .list .now) (s .args .n) (v .t) (v .count) (v .list) (v .inv .1) (v .inv .2) (s .pre .1) (sym (c .before .marked .ensures) ∙ c .if1 .taken) (c .before .before .before .loop-test .taken) in
+    omega arith
 
 add-count : tie.Need-add-count Inv-loop μ-loop
-add-count c = search needs
+add-count c =
+    let v = c .before .before .before .before .loop in
+    let s = c .before .before .before .before .before .before in
+    let r = room (λ k. markOf (getD (s .args .facts .now) k 0)) (s .args .list .now) (s .args .n) (v .t) (v .count) (v .list) (v .inv .1) (v .inv .2) (s .pre .1) (sym (c .before .marked .ensures) ∙ c .if1 .taken) (c .before .before .before .loop-test .taken) in
+    omega arith
 
 add-t : tie.Need-add-t Inv-loop μ-loop
 add-t c = search needs
@@ -50,13 +63,31 @@ loop-less : tie.Need-loop-less Inv-loop μ-loop
 loop-less c = search needs
 
 loop-again : tie.Need-loop-again Inv-loop μ-loop
-loop-again c = ?
+loop-again c =
+    let v = c .before .before .before .before .loop in
+    let s = c .before .before .before .before .before .before in
+    let g : ℕ → Bool = λ k. markOf (getD (s .args .facts .now) k 0) in
+    let e = c .before .marked .ensures in
+    let l = s .args .list .now in
+    ⊎-elim
+    (λ w.
+    let h = count-in g (v .t) (sym e ∙ w .0 .taken) in
+    let r = room g l (s .args .n) (v .t) (v .count) (v .list) (v .inv .1) (v .inv .2) (s .pre .1) (sym e ∙ w .0 .taken) (c .before .before .before .loop-test .taken) in
+    (omega arith, omega arith, cc (front-in g l (v .t) (v .count) (v .inv .1) (sym e ∙ w .0 .taken) (r .0))))
+    (λ w.
+    let h = count-out g (v .t) (sym e ∙ w .0 .left) in
+    (omega arith, omega arith, cc (front-out g l (v .t) (sym e ∙ w .0 .left))))
+    (c .if1 .came)
 
 same-length : tie.Need-same-length Inv-loop μ-loop
-same-length c = ?
+same-length c =
+    let e : _≡_ {A = ℕ} (c .before .loop .t) (c .before .before .before .args .n) = omega arith in
+    ap length (c .before .loop .inv .2) ∙ front-length _ _ _ (rw e (c .before .before .before .pre .1))
 
 returns : tie.Need-returns Inv-loop μ-loop
-returns c = ?
+returns c =
+    let e : _≡_ {A = ℕ} (c .before .loop .t) (c .before .before .before .args .n) = omega arith in
+    rw (← e) (c .before .loop .inv .2)
 
 pub fill-marked-spec : {M : Type 1} → statement M
 fill-marked-spec =
