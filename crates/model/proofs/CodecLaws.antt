@@ -24,12 +24,12 @@ power-pos n = one-le-pow n 256 (zero-lt-suc 255)
 length-bytes : (n x : ℕ) → length (bytes n x) ≡ n
 unfolding bytes
 length-bytes zero x = refl
-length-bytes (suc n) x = ap suc (length-bytes n x)
+length-bytes (suc n) x = ap suc (length-bytes n _)
 
 bytes-below : (n x : ℕ) → Bytes (bytes n x)
 unfolding bytes
 bytes-below zero x = tt
-bytes-below (suc n) x = (mod-lt (x / 256 ^ n) (zero-lt-suc 255), bytes-below n x)
+bytes-below (suc n) x = (mod-lt _ (zero-lt-suc 255), bytes-below n _)
 
 append-below : (a b : List ℕ) → Bytes a → Bytes b → Bytes (a ++ b)
 append-below [] b p q = q
@@ -38,7 +38,7 @@ append-below (x ∷ a) b p q = (p .0, append-below a b (p .1) q)
 -- the byte at place k, with m bytes after it
 byte-at : (k m x : ℕ) → getD (bytes (suc (k + m)) x) k 0 ≡ x / 256 ^ m % 256
 unfolding bytes
-byte-at zero m x = rw (zero-add m) refl
+byte-at zero m x = ap (λ (n : ℕ). x / 256 ^ n % 256) (zero-add m)
 byte-at (suc k) m x = rw (suc-add k m) (byte-at k m x)
 
 -- the first k of k + m bytes

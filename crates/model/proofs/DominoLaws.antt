@@ -17,7 +17,7 @@ use Rattle.model.specs.Outcomes.{Outcome, scenarioOutcomes, outcomesOf}
 use Rattle.model.specs.Report.{targetAt, judgement, listedAt, dominoOf}
 use Rattle.model.specs.MeaningTheorems.{Listed, DominoExactly, DominoRises}
 use Rattle.model.proofs.ListLaws.{some-found, some-holds, join-found, join-holds, below-found, below-holds, below-rises}
-use Rattle.model.proofs.OutcomeFacts.{scenario-leak}
+use Rattle.model.proofs.OutcomeLaws.{scenario-leak}
 
 -- a test that is false on one side of a choice holds exactly on the other
 pick-first : (u b : Bool) → pick u b false ≡ true → (u ≡ true) × (b ≡ true)

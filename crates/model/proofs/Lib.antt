@@ -1,6 +1,4 @@
 pub mod ListLaws
-pub mod SumLaws
-pub mod OutcomeFacts
 pub mod OutcomeLaws
 pub mod Totals
 pub mod Weights

@@ -19,7 +19,7 @@ use Rattle.model.specs.Valid.{Valid}
 use Rattle.model.specs.Outcomes.{Outcome, above, outcomesOf, scenarioOutcomes}
 use Rattle.model.specs.Report.{judgement, overEffects, sumAt, marginAt, exactAt}
 use Rattle.model.specs.MeaningTheorems.{SumsWithinMargin}
-use Rattle.model.proofs.SumLaws.{join-member}
+use Rattle.model.proofs.ListLaws.{join-found}
 use Rattle.model.proofs.OutcomeLaws.{Branch, scenario-outcome}
 use Rattle.model.proofs.Weights.{weightAt, partsAt, weight-parts, weight-root, weight-branch}
 
@@ -163,9 +163,9 @@ along-root leak = record { weight = weight-root leak; near = near-root (10 ^ 48)
 outcome-near : (c : Content) → Valid c → (o : Outcome) → List·Memᴰ o (outcomesOf c) → Near (10 ^ 48) (o .frequency) (o .weight) (above o)
 unfolding outcomesOf
 outcome-near c v o m =
-    let j = join-member scenarioOutcomes (c .scenarios) o m in
-    let leak : ℕ = j .from .frequency in
-    scenario-outcome (Along leak) (along-branch leak) c v (j .from) (j .among) (along-root leak) o (j .within) .holds .near
+    let j = join-found scenarioOutcomes (c .scenarios) o m in
+    let leak : ℕ = j .0 .frequency in
+    scenario-outcome (Along leak) (along-branch leak) c v (j .0) (j .1) (along-root leak) o (j .2) .holds .near
 
 -- what an effect adds, with the share that the report adds
 chance-inside : (f w d c : ℕ) → c ≤ certain → Near (10 ^ 48) f w d → Inside (10 ^ 54) (shareOf f c) (w * c) (d + 1)

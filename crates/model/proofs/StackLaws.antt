@@ -9,7 +9,7 @@ use Rattle.numeric.specs.Share.{splitOf}
 use Rattle.numeric.proofs.ChoiceLaws.{ne-case, le-case, lt-case, lt-both}
 use Rattle.model.specs.Bounds.{mostAbove, mostFrequency}
 use Rattle.model.specs.Machine.{store, packed, frequencyOf, aboveOf, top, leakStack, branchStack}
-use Rattle.model.proofs.Totals.{split-total}
+use Rattle.model.proofs.OutcomeLaws.{split-total}
 
 -- a store below the length
 pub stored-length : (n : ℕ) (l : List ℕ) (i v : ℕ) → length (store n l i v) ≡ length l
