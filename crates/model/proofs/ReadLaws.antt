@@ -1,15 +1,15 @@
 -- A record read byte by byte is the record read at once. Assumes nothing.
 use mathlib.Core.Path.{_≡_, refl, sym, _∙_, ap}
 use mathlib.Core.List.{List, [], _∷_, _++_, append-assoc, append-nil}
-use Prim.Native.Nat.{ℕ, zero, suc, _+_, _-_, _<_, _≤_, min}
+use Prim.Native.Nat.{ℕ, suc, _+_, _-_, _<_, _≤_, min}
 use native.Mathlib.Omega.{arith}
 use native.Mathlib.Numerals.{add-one}
-use lib.ListN.{length, getD, set, drop, length-append, length-drop}
+use lib.ListN.{length, getD, set, drop, length-append}
 use lib.Seq.{drop-cons, set-at}
 use Rattle.numeric.proofs.ChoiceLaws.{eq-case, ne-case, le-case, gt-case, lt-case}
 use Rattle.state.specs.declared.Reading.{Reading}
 use Rattle.model.specs.Verdict.{bodyLength, decode}
-use Rattle.model.specs.Machine.{State, state, upTo, most64, store, reading, begun, grown, core, recordRead, ended, body, step, readAll}
+use Rattle.model.specs.Machine.{State, state, most64, store, reading, begun, grown, core, recordRead, ended, body, step, readAll}
 
 -- bytes of two lists, one after the other
 pub read-append : (s : State) (a b : List ℕ) → readAll s (a ++ b) ≡ readAll (readAll s a) b

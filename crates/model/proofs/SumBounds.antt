@@ -1,7 +1,7 @@
 -- The bounds of a target's sum, of the leaks and of a margin. Assumes nothing.
 use mathlib.Core.Path.{_≡_, refl, ap}
 use mathlib.Core.List.{List, [], _∷_, List·Memᴰ}
-use Prim.Native.Nat.{ℕ, suc, _+_, _*_, _^_, _≤_}
+use Prim.Native.Nat.{ℕ, suc, _*_, _^_, _≤_}
 use native.Mathlib.Nat.{le-step, add-le-add, le-trans, le-of-eq, mul-le-mul-right}
 use native.Mathlib.Omega.{arith}
 use lib.ListN.{length, length-append}
@@ -13,8 +13,8 @@ use Rattle.model.specs.Sums.{sumOver, joinOver}
 use Rattle.model.specs.Content.{Effect, targetOf, Tree, outcome, branching, Scenario, Content}
 use Rattle.model.specs.Format.{targetRecords, effectRecords, treeRecords, scenarioRecords, leaksOf, openRecords, countOf}
 use Rattle.model.specs.Valid.{ValidScenario, Valid}
-use Rattle.model.specs.Outcomes.{Outcome, above, treeOutcomes, scenarioOutcomes, outcomesOf}
-use Rattle.model.specs.Report.{judgement, overEffects, naming, sumAt, marginAt}
+use Rattle.model.specs.Outcomes.{Outcome, treeOutcomes, scenarioOutcomes, outcomesOf}
+use Rattle.model.specs.Report.{judgement, overEffects, sumAt, marginAt}
 use Rattle.model.specs.MeaningTheorems.{SumsBounded}
 use Rattle.model.proofs.ListLaws.{each-at, sum-append, sum-le, sum-times, sum-most, sum-join, length-join, rise-once}
 use Rattle.model.proofs.OutcomeLaws.{outcome-known}

@@ -1,18 +1,16 @@
 -- The totals of the six outcome kinds add up to the leaks. Assumes nothing.
-use mathlib.Core.Path.{_≡_, sym, _∙_, ap₂}
-use mathlib.Core.List.{List, []}
-use Prim.Native.Nat.{ℕ, zero, suc, _+_, _*_, _^_, _≤_}
+use mathlib.Core.Path.{_≡_, sym, _∙_}
+use mathlib.Core.List.{List}
+use Prim.Native.Nat.{ℕ, zero, suc, _+_, _≤_}
 use native.Mathlib.Omega.{arith}
 use Rattle.numeric.specs.Choice.{ifEq}
-use Rattle.numeric.specs.Share.{splitOf}
-use Rattle.numeric.proofs.ShareLaws.{share-le}
 use Rattle.model.specs.Sums.{sumOver}
-use Rattle.model.specs.Content.{chance, Tree, outcome, branching, Scenario, Content}
+use Rattle.model.specs.Content.{Content}
 use Rattle.model.specs.Format.{leaksOf}
-use Rattle.model.specs.Outcomes.{Outcome, treeOutcomes, scenarioOutcomes, outcomesOf}
+use Rattle.model.specs.Outcomes.{Outcome, scenarioOutcomes, outcomesOf}
 use Rattle.model.specs.Report.{kindTotal}
 use Rattle.model.specs.MeaningTheorems.{KindsAddUp}
-use Rattle.model.proofs.ListLaws.{sum-append, sum-same, sum-add, sum-join}
+use Rattle.model.proofs.ListLaws.{sum-same, sum-add, sum-join}
 use Rattle.model.proofs.OutcomeLaws.{frequencies-add-up, outcome-known}
 
 -- the frequencies of all outcomes add up to the leaks
