@@ -1,7 +1,7 @@
 -- A study is closed exactly when its bytes begin with those of a valid content. Demand 3. Assumes nothing.
 use mathlib.Core.Path.{_≡_, refl, sym, _∙_, ap, ap₂, subst}
 use mathlib.Core.Logic.{_⊎_, inl, inr}
-use mathlib.Core.List.{List, [], _∷_, _++_, append-assoc, append-nil}
+use mathlib.Core.List.{List, [], _∷_, _++_, append-assoc, append-nil, map, map-append}
 use Prim.Native.Nat.{ℕ, _+_, _-_, _<_}
 use native.Mathlib.Nat.{add-assoc, add-zero}
 use native.Mathlib.Decide.{ℕ-discrete}
@@ -23,7 +23,7 @@ use Rattle.model.specs.MachineTheorems.{Answers, ClosedFront, ClosedExac
 use Rattle.model.proofs.ListLaws.{each-parts, join-append, join-one, each-join}
 use Rattle.model.proofs.Accepts.{Accepts, Fits, WholeBytes}
 use Rattle.model.proofs.CodecLaws.{decode-encode, encode-decode, decode-fits, encode-bytes}
-use Rattle.model.proofs.CutLaws.{encodings, cut-records, cut-joined, cut-each}
+use Rattle.model.proofs.CutLaws.{cut-records, cut-joined, cut-each}
 use Rattle.model.proofs.ReadLaws.{read-append, read-stays}
 use Rattle.model.proofs.Agreement.{ClosedState, Agrees, closing-role, accepts-more, context-more, fits-more, bytes-each, fresh-agrees}
 use Rattle.model.proofs.CallLaws.{cuts-make-no-difference, all-answers, joined-bytes}
@@ -41,7 +41,7 @@ answers-hold = all-answers closes
 
 -- records without fault are judged one after the other
 judge-records : (rs : List Record) (x : Context) (place : ℕ) (taken : List Record) (more : List (List ℕ)) (left : List ℕ) → Accepts x rs → Each Fits rs
-    → judge x place taken (encodings rs ++ more) left ≡ judge (contextAfterAll x rs) (place + length (joinOver encode rs)) (taken ++ rs) more left
+    → judge x place taken (map encode rs ++ more) left ≡ judge (contextAfterAll x rs) (place + length (joinOver encode rs)) (taken ++ rs) more left
 unfolding judge Accepts contextAfterAll joinOver
 judge-records [] x place taken more left a f = rw (append-nil taken, add-zero place) refl
 judge-records (r ∷ rs) x place taken more left a f =
@@ -58,10 +58,6 @@ judge-closing : (x : Context) (place n t : ℕ) (taken : List Record) (more : Li
 unfolding judge
 judge-closing x place n t taken more left e f = rw (decode-encode (closingRec n t) f) (sym (eq-case _ _ _ _ e (eq-case _ _ _ _ refl refl)))
 
-encodings-more : (a b : List Record) → encodings (a ++ b) ≡ encodings a ++ encodings b
-encodings-more [] b = refl
-encodings-more (r ∷ a) b = ap (λ (x : List (List ℕ)). encode r ∷ x) (encodings-more a b)
-
 pub closed-content : ClosedContent
 unfolding verdict bytesOf recordsOf
 closed-content c v tail =
@@ -69,7 +65,7 @@ closed-content c v tail =
     let q : Record = closingRec (countOf c) (leaksOf c) in
     let f = each-parts Fits (openRecords c) (q ∷ []) (a .fits) in
     let k = cut-records (openRecords c ++ (q ∷ [])) tail in
-    let w = k .0 ∙ ap (λ (x : List (List ℕ)). x ++ cut tail .whole) (encodings-more (openRecords c) (q ∷ [])) ∙ append-assoc (encodings (openRecords c)) (encode q ∷ []) (cut tail .whole) in
+    let w = k .0 ∙ ap (λ (x : List (List ℕ)). x ++ cut tail .whole) (map-append encode (openRecords c) (q ∷ [])) ∙ append-assoc (map encode (openRecords c)) (encode q ∷ []) (cut tail .whole) in
     let b : length (joinOver encode (openRecords c ++ (q ∷ []))) ≡ 0 + length (joinOver encode (openRecords c)) + length (encode q) =
     ap length (join-append encode (openRecords c) (q ∷ []) ∙ ap (λ (x : List ℕ). joinOver encode (openRecords c) ++ x) (join-one encode q))
     ∙ length-append (joinOver encode (openRecords c)) (encode q) ∙ omega arith in

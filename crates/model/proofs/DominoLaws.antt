@@ -53,7 +53,7 @@ module _ (c : Content) (t : ℕ) where
         effect = e .0;
         within = e .1;
         names = n .0;
-        chance = l .0;
+        chance = omega (arith, l .0);
       }
 
   holds : Listed c t → List·Memᴰ t (dominoOf c)

@@ -76,11 +76,6 @@ read-more s l b r h k =
     (reading 0 (min (length l + 1) 15) (min (s .core .reading .place + length l + 1) most64) (s .core .reading .place) 0 0) = rw (n, m, q) refl in
     sym (eq-case _ _ _ _ refl (ne-case _ _ _ _ (omega arith) (cc)))
 
--- the kind of a record that has begun
-kind-partial : (s : State) (k : ℕ) (b : List ℕ) → getD (partial s (k ∷ b) .pending) 0 0 ≡ k
-unfolding partial
-kind-partial s k b = refl
-
 -- a record that is not yet whole, and one that is
 ended-not : (s : State) (k : ℕ) (b : List ℕ) → length b < bodyLength k → ended (partial s (k ∷ b)) ≡ partial s (k ∷ b)
 unfolding ended partial

@@ -73,15 +73,20 @@ effects-le c =
     let k = length-append (targetRecords 0 (c .targets)) (joinOver scenarioRecords ss) in
     omega arith
 
+-- a figure of at most k at each effect
+pub over-most : (g : Outcome → Effect → ℕ) (k : ℕ) (os : List Outcome) → ((o : Outcome) → List·Memᴰ o os → (e : Effect) → g o e ≤ k)
+    → overEffects g os ≤ sumOver effectCount os * k
+unfolding overEffects
+over-most g k os h =
+    le-trans (sum-le _ (λ o. effectCount o * k) os (λ o m. sum-most (g o) k (o .effects) (λ e i. h o m e))) (le-of-eq (sum-times effectCount k os))
+
 -- an effect in a valid outcome adds at most 9 to a margin
 pub margin-le : (c : Content) → Valid c → (t : ℕ) → marginAt c t ≤ 9000000
-unfolding marginAt overEffects
+unfolding marginAt
 margin-le c v t =
     le-trans
-    (sum-le _ (λ o. effectCount o * 9) (outcomesOf c)
-    (λ o m. sum-most _ 9 (o .effects)
-    (λ e k. let h = outcome-known c v o m .few in eq-both (λ x. x ≤ 9) (targetOf e) t _ 0 (omega arith) (omega arith))))
-    (let e = sum-times effectCount 9 (outcomesOf c) in let k = effects-le c in let r = v .fewRecords in omega arith)
+    (over-most _ 9 (outcomesOf c) (λ o m e. let h = outcome-known c v o m .few in eq-both (λ x. x ≤ 9) (targetOf e) t _ 0 (omega arith) (omega arith)))
+    (let k = effects-le c in let r = v .fewRecords in omega arith)
 
 pub sums-bounded : SumsBounded
 sums-bounded c v t = record { sum = sum-le-leaks c v t; leaks = leaks-le c v; margin = margin-le c v t }
