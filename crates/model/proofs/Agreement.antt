@@ -56,7 +56,7 @@ Closes = (s : State) (x : Context) (rs : List Record) (n t total : ℕ) (l : Lis
     → s .core .reading .place + length l ≤ total
     → ClosedState (accepted (partial s l) (closingRec n t)) total (s .core .reading .place + length l) (contentOf rs)
 
-ready : (s : State) (x : Context) → Follows s x → Ready s
+pub ready : (s : State) (x : Context) → Follows s x → Ready s
 ready s x f =
     let p = f .place in
     let r = f .records in
@@ -122,11 +122,11 @@ part-decode : (s : State) (l : List ℕ) → WholeBytes l → decode (partial s 
 unfolding partial
 part-decode s l w = pending-decode l (s .pending) w
 
-whole-few : (b : List ℕ) → WholeBytes b → length b ≤ 13
+pub whole-few : (b : List ℕ) → WholeBytes b → length b ≤ 13
 whole-few b w = let m = body-most (w .kind) in let f = w .whole .full in let e = ap length (w .same) in omega arith
 
 -- a whole record is read at once
-read-record : (s : State) (x : Context) (b rest : List ℕ) → Follows s x → WholeBytes b
+pub read-record : (s : State) (x : Context) (b rest : List ℕ) → Follows s x → WholeBytes b
     → readAll s (b ++ rest) ≡ readAll (recordRead (partial s b) (decode b)) rest
 read-record s x b rest f w =
     rw (w .same)
@@ -137,11 +137,11 @@ read-record s x b rest f w =
     again = record { kind = w .kind; body = w .body; same = refl; whole = w .whole }
 
 -- it is taken where the context finds no fault, and refused at its first byte where it finds one
-record-taken : (s : State) (x : Context) (b : List ℕ) (r : Record) → Follows s x → fault x r ≡ 0 → recordRead (partial s b) r ≡ accepted (partial s b) r
+pub record-taken : (s : State) (x : Context) (b : List ℕ) (r : Record) → Follows s x → fault x r ≡ 0 → recordRead (partial s b) r ≡ accepted (partial s b) r
 unfolding recordRead
 record-taken s x b r f e = sym (eq-case _ _ _ _ (part-fault s b r ∙ same-fault s x r f ∙ e) refl)
 
-record-refused : (s : State) (x : Context) (b : List ℕ) (r : Record) → Follows s x → (fault x r ≡ 0 → ⊥)
+pub record-refused : (s : State) (x : Context) (b : List ℕ) (r : Record) → Follows s x → (fault x r ≡ 0 → ⊥)
     → recordRead (partial s b) r ≡ withReading (partial s b) (refusedWith (partial s b .core .reading) (fault x r))
 unfolding recordRead
 record-refused s x b r f e =
@@ -233,7 +233,7 @@ module _ (closes : Closes) (b rest : List ℕ) (s : State) (x : Context) (rs : L
       (subst (λ (u : State). Agrees u total v) (sym (taken-on f)) (ih f k))
 
 -- the fresh study, before the first record
-follows-fresh : Follows fresh start
+pub follows-fresh : Follows fresh start
 unfolding fresh pile aboves Placed
 follows-fresh =
     record {

@@ -12,11 +12,10 @@ use Rattle.model.specs.Content.{Branching, chance}
 use Rattle.model.specs.Format.{Record, openingRec, targetRec, leakRec, branchingRec, outcomeRec, effectRec, closingRec}
 use Rattle.model.specs.Valid.{Each}
 use Rattle.model.specs.Faults.{Context, role, ownFault, fault, counted, declaring, leaking, branched, contextAfter}
-use Rattle.model.specs.Machine.{State, most16, most32, most64, store, taken, oneRecord, oneTarget, oneLeak, frequencyOf, aboveOf, top, leakStack, branchStack, leakBranch, branchedBranch, outcomeBranch, effectBranch, ownFaultIn, faultIn, effectState, accepted}
+use Rattle.model.specs.Machine.{State, most16, most32, most64, taken, oneRecord, oneTarget, oneLeak, frequencyOf, aboveOf, top, leakStack, branchStack, leakBranch, branchedBranch, outcomeBranch, effectBranch, ownFaultIn, faultIn, effectState, accepted}
 use Rattle.model.proofs.ReadLaws.{partial}
 use Rattle.model.proofs.FaultLaws.{order-facts, target-facts, leak-facts, branching-facts, fault-facts}
-use Rattle.model.proofs.StackLaws.{stored-length, above-packed, frequency-packed, top-at, first-le, second-le, branched-length, branched-first, branched-second, branched-below, leak-length, leak-next}
-pub use Rattle.model.proofs.StackLaws.{packed-is, packed-above, packed-frequency, store-set}
+use Rattle.model.proofs.StackLaws.{above-packed, frequency-packed, top-at, first-le, second-le, branched-length, branched-first, branched-second, branched-below, leak-length, leak-next}
 
 -- the trees still to come, as packed numbers, the next first
 unfoldable pub pile : List ℕ → ℕ → List ℕ
@@ -27,12 +26,12 @@ unfoldable pub aboves : List ℕ → List ℕ
 aboves [] = []
 aboves (x ∷ l) = aboveOf x ∷ aboves l
 
-aboves-length : (l : List ℕ) → length (aboves l) ≡ length l
+pub aboves-length : (l : List ℕ) → length (aboves l) ≡ length l
 unfolding aboves
 aboves-length [] = refl
 aboves-length (x ∷ l) = ap suc (aboves-length l)
 
-pile-length : (l : List ℕ) (n : ℕ) → length (pile l n) ≡ n
+pub pile-length : (l : List ℕ) (n : ℕ) → length (pile l n) ≡ n
 unfolding pile
 pile-length l zero = refl
 pile-length l (suc n) = ap suc (pile-length l n)
@@ -68,11 +67,11 @@ pub record Follows (s : State) (x : Context) : Type 0 where
   pub leaks : x .counts .leaks ≤ x .counts .scenarios * mostFrequency
 
 -- the height is the number of trees
-height-is : (s : State) (x : Context) → Follows s x → s .core .branch .height ≡ length (x .trees)
+pub height-is : (s : State) (x : Context) → Follows s x → s .core .branch .height ≡ length (x .trees)
 height-is s x f =
     sym (ap length (sym (f .trees)) ∙ aboves-length (pile (s .stack) (s .core .branch .height)) ∙ pile-length (s .stack) (s .core .branch .height))
 
-placed-few : (l : List ℕ) → Placed l → length l ≤ 9
+pub placed-few : (l : List ℕ) → Placed l → length l ≤ 9
 unfolding Placed
 placed-few [] p = omega arith
 placed-few (a ∷ l) p = omega (arith, p .0, p .1)
@@ -112,7 +111,7 @@ same-fault s x r f =
 -- ---- each kind of record keeps Follows
 
 -- the counts, where there is room for a record
-one-record : (k : Counts) → k .records < mostRecords → oneRecord k ≡ counted k
+pub one-record : (k : Counts) → k .records < mostRecords → oneRecord k ≡ counted k
 unfolding oneRecord
 one-record k h = let m : min (k .records + 1) most32 ≡ k .records + 1 = omega arith in rw m refl
 
@@ -132,16 +131,13 @@ one-leak k n f h s g l =
     let q : min (k .leaks + f) most64 ≡ k .leaks + f = omega arith in
     rw (m, o, q) refl
 
-pub store-length : (n : ℕ) (l : List ℕ) (i v : ℕ) → i < n → length (store n l i v) ≡ length l
-store-length n l i v h = stored-length n l i v
-
 -- the pile after a leak and after a branching
-leak-pile : (l : List ℕ) (f : ℕ) → length l ≡ 9 → f ≤ mostFrequency → pile (leakStack l f) 1 ≡ (f * 16 + 0) ∷ []
+pub leak-pile : (l : List ℕ) (f : ℕ) → length l ≡ 9 → f ≤ mostFrequency → pile (leakStack l f) 1 ≡ (f * 16 + 0) ∷ []
 unfolding pile
 leak-pile l f n h = ap (λ (x : ℕ). x ∷ []) (leak-next l f n h)
 
 module _ (l : List ℕ) (n p f a : ℕ) (size : length l ≡ 9) (next : getD l n 0 ≡ f * 16 + a) (low : n ≤ a) (shallow : a ≤ mostAbove) (small : f ≤ mostFrequency) where
-  branch-pile : pile (branchStack l (suc n) p) (suc (suc n)) ≡ (splitOf f p .first * 16 + suc a) ∷ (splitOf f p .second * 16 + suc a) ∷ pile l n
+  pub branch-pile : pile (branchStack l (suc n) p) (suc (suc n)) ≡ (splitOf f p .first * 16 + suc a) ∷ (splitOf f p .second * 16 + suc a) ∷ pile l n
   unfolding pile
   branch-pile =
       ap₂ _∷_ (branched-first l (suc n) n f a p refl low shallow next small size)

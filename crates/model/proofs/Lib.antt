@@ -32,3 +32,5 @@ pub mod Sound
 pub mod ClosedLaws
 pub mod Closing
 pub mod OrderLaws
+pub mod StateBounds
+pub mod FarBelowLaws

@@ -15,9 +15,10 @@ use Rattle.model.specs.Format.{openingRec, targetRec, leakRec, branching
 use Rattle.model.specs.Valid.{Each, ValidTarget, ValidEffect, ValidTree, ValidScenario, Valid}
 use Rattle.model.specs.Outcomes.{Outcome, firstWeight, secondWeight, treeOutcomes, scenarioOutcomes, outcomesOf}
 use Rattle.model.specs.Report.{targetAt, judgement, overEffects, kindTotal, unjudgedOf, sumAt, marginAt, listedAt}
-use Rattle.model.specs.Machine.{most32, most64, accepted, effectState, rowAfter, oneRecord, oneTarget, oneLeak, unpackedFacts, markOf, studyTally, frequencyOf, top, outcomeBranch, fresh}
+use Rattle.model.specs.Machine.{fetch, most32, most64, accepted, effectState, rowAfter, oneRecord, oneTarget, oneLeak, unpackedFacts, markOf, studyTally, frequencyOf, top, outcomeBranch, fresh}
 use Rattle.model.proofs.Totals.{kinds-add-up}
 use Rattle.model.proofs.SumBounds.{sum-le-leaks, leaks-le, effects-le, over-most, margin-le}
+use Rattle.model.proofs.StackLaws.{fetched}
 use Rattle.model.proofs.RunData.{Data, dataOf, after, run, run-append, run-records}
 use Rattle.model.proofs.StackRuns.{Ready, AtHand, run-size, leak-ready, outcome-at-hand, effect-at-hand, branches}
 use Rattle.model.proofs.PartFigures.{unjudgedBy, upToNow}
@@ -56,12 +57,13 @@ module _ (c : Content) (n sum : ℕ) where
     unfolding after accepted effectState oneRecord rowAfter
     effect-step done e d h few declared a s =
         let k = s .rows .known (targetOf e) declared in
+        let g : fetch 256 (d .facts) (targetOf e) ≡ getD (d .facts) (targetOf e) 0 = fetched 256 (d .facts) (targetOf e) (omega arith) in
         record {
           targets = s .targets;
           leaks = s .leaks;
-          tally = rw (a .kind, k) (effect-tally c kind leak f w path os done e (d .tally) (s .tally));
+          tally = rw (a .kind, g, k) (effect-tally c kind leak f w path os done e (d .tally) (s .tally));
           rows =
-              rw (a .kind, a .frequency, a .above, a .leak, k)
+              rw (a .kind, a .frequency, a .above, a .leak, g, k)
               (effect-rows c kind leak f w path os done e n (d .sums) (d .margins) (d .facts) (s .rows) declared few);
         }
 

@@ -8,7 +8,7 @@ use lib.Seq.{getD-set-same, getD-set-other}
 use Rattle.numeric.specs.Share.{splitOf}
 use Rattle.numeric.proofs.ChoiceLaws.{ne-case, le-case, lt-case, lt-both}
 use Rattle.model.specs.Bounds.{mostAbove, mostFrequency}
-use Rattle.model.specs.Machine.{store, packed, frequencyOf, aboveOf, top, leakStack, branchStack}
+use Rattle.model.specs.Machine.{store, fetch, packed, frequencyOf, aboveOf, top, leakStack, branchStack}
 use Rattle.model.proofs.OutcomeLaws.{split-total}
 
 -- a store below the length
@@ -29,16 +29,15 @@ pub stored-other : (n : ℕ) (l : List ℕ) (i j v : ℕ) → (j ≡ i → ⊥) 
 unfolding store
 stored-other n l i j v h = lt-both (λ (x : List ℕ). getD x j 0 ≡ getD l j 0) i n (set l i v) l (getD-set-other l i j v 0 h) refl
 
+-- what is fetched below the length is what stands there
+pub fetched : (n : ℕ) (l : List ℕ) (i : ℕ) → i < n → fetch n l i ≡ getD l i 0
+unfolding fetch
+fetched n l i h = sym (lt-case i n (getD l i 0) 0 h refl)
+
 -- a tree of a valid content is packed whole, and comes out as it went in
 pub packed-is : (f a : ℕ) → f ≤ mostFrequency → a < 16 → packed f a ≡ f * 16 + a
 unfolding packed
 packed-is f a h k = omega arith
-
-pub packed-above : (f a : ℕ) → f ≤ mostFrequency → a < 16 → aboveOf (packed f a) ≡ a
-packed-above f a h k = rw (packed-is f a h k) (omega arith)
-
-pub packed-frequency : (f a : ℕ) → f ≤ mostFrequency → a < 16 → frequencyOf (packed f a) ≡ f
-packed-frequency f a h k = rw (packed-is f a h k) (omega arith)
 
 pub packed-whole : (f a : ℕ) → f ≤ mostFrequency → a ≤ suc mostAbove → packed f a ≡ f * 16 + a
 packed-whole f a h k = packed-is f a h (omega arith)

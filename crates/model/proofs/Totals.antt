@@ -21,7 +21,7 @@ outcomes-total c =
     ∙ sum-same (λ s. sumOver (λ o. o .frequency) (scenarioOutcomes s)) (λ s. s .frequency) (c .scenarios) (λ s m. frequencies-add-up s)
 
 -- a known kind is exactly one of the six, so the six parts add up to the frequency
-one-kind : (k f : ℕ) → k ≤ 5 → ifEq k 0 f 0 + ifEq k 1 f 0 + ifEq k 2 f 0 + ifEq k 3 f 0 + ifEq k 4 f 0 + ifEq k 5 f 0 ≡ f
+pub one-kind : (k f : ℕ) → k ≤ 5 → ifEq k 0 f 0 + ifEq k 1 f 0 + ifEq k 2 f 0 + ifEq k 3 f 0 + ifEq k 4 f 0 + ifEq k 5 f 0 ≡ f
 unfolding ifEq
 one-kind zero f h = omega arith
 one-kind (suc zero) f h = omega arith

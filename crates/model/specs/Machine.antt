@@ -58,6 +58,10 @@ most64 = 18446744073709551615
 unfoldable pub store : ℕ → List ℕ → ℕ → ℕ → List ℕ
 store n l i v = ifLt i n (set l i v) l
 
+-- what stands at a place below a length; 0 past it
+unfoldable pub fetch : ℕ → List ℕ → ℕ → ℕ
+fetch n l i = ifLt i n (getD l i 0) 0
+
 -- ---- the reading
 
 abbrev pub reading : ℕ → ℕ → ℕ → ℕ → ℕ → ℕ → Reading
@@ -202,8 +206,11 @@ abbrev pub core : Reading → Counts → Branch → Tally → Core
 core h k b y = record { reading = h; counts = k; branch = b; tally = y }
 
 -- the figures of one target
+abbrev pub rowOf : List ℕ → List ℕ → List ℕ → ℕ → Row
+rowOf sums margins facts t = record { sum = getD sums t 0; margin = getD margins t 0; facts = getD facts t 0 }
+
 abbrev pub rowAt : State → ℕ → Row
-rowAt s t = record { sum = getD (s .sums) t 0; margin = getD (s .margins) t 0; facts = getD (s .facts) t 0 }
+rowAt s t = rowOf (s .sums) (s .margins) (s .facts) t
 
 -- what an effect does, in a study whose target has a judged chance
 unfoldable pub effectState : State → ℕ → Judged → State
@@ -236,7 +243,7 @@ accepted s (outcomeRec k n) =
     (outcomeTally (s .core .tally) k (frequencyOf (top (s .stack) (s .core .branch .height)))))
     (s .pending) (s .stack) (s .sums) (s .margins) (s .facts)
 accepted s (effectRec e) =
-    effectState s (targetOf e) (effectOn (clock e) (unpackedFacts (getD (s .facts) (targetOf e) 0)) (s .core .branch .kind) (intensity e) (duration e))
+    effectState s (targetOf e) (effectOn (clock e) (unpackedFacts (fetch 256 (s .facts) (targetOf e))) (s .core .branch .kind) (intensity e) (duration e))
 accepted s (closingRec n t) =
     state (core (taken (s .core .reading) 1) (oneRecord (s .core .counts)) (s .core .branch) (s .core .tally))
     (s .pending) (s .stack) (s .sums) (s .margins) (s .facts)

@@ -1,6 +1,6 @@
 // Arithmetic on frequencies and chances, without overflow.
 ghost use mathlib.Core.Path.{_≡_};
-ghost use Prim.Native.Nat.{_-_, _%_};
+ghost use Prim.Native.Nat.{_+_, _-_, _%_, min};
 ghost use Rattle.numeric.specs.Share.{shareOf, splitOf};
 
 // The frequencies of the two branches of a branching.
@@ -39,4 +39,31 @@ pub fn split(frequency: u64, chance: u32) -> Branches
         first: first,
         second: second,
     }
+}
+
+// Sums that stop at the greatest number of their width.
+pub fn add64(x: u64, y: u64) -> u64
+    ensures { λ r. ⌜ r ≡ min (x + y) 18446744073709551615 ⌝ }
+{
+    if y <= 18_446_744_073_709_551_615 - x {
+        x + y
+    } else {
+        18_446_744_073_709_551_615
+    }
+}
+
+pub fn add32(x: u32, y: u32) -> u32
+    ensures { λ r. ⌜ r ≡ min (x + y) 4294967295 ⌝ }
+{
+    if y <= 4_294_967_295 - x {
+        x + y
+    } else {
+        4_294_967_295
+    }
+}
+
+pub fn add16(x: u16, y: u16) -> u16
+    ensures { λ r. ⌜ r ≡ min (x + y) 65535 ⌝ }
+{
+    if y <= 65_535 - x { x + y } else { 65_535 }
 }

@@ -1,0 +1,121 @@
+// The fields of a record in the pending bytes: kind byte first, numbers most significant byte first (document 01, "Records").
+ghost use mathlib.Core.Path.{_≡_};
+ghost use Prim.Native.Nat.{_+_, _*_, _<_};
+ghost use Rattle.model.specs.Verdict.{bodyLength, field, factsAt};
+use terms::Target;
+
+// The length of a kind's body; 0 for an unknown kind.
+pub fn body_length(kind: u8) -> u8
+    ensures { λ r. ⌜ r ≡ bodyLength kind ⌝ }
+{
+    if kind == 1 {
+        return 4;
+    }
+    if kind == 2 {
+        return 8;
+    }
+    if kind == 3 {
+        return 12;
+    }
+    if kind == 4 {
+        return 4;
+    }
+    if kind == 5 {
+        return 3;
+    }
+    if kind == 6 {
+        return 8;
+    }
+    if kind == 7 {
+        return 12;
+    }
+    0
+}
+
+fn wide(x: u8) -> u32
+    ensures { λ r. ⌜ (r ≡ x) × (r < 256) ⌝ }
+{
+    x as u32
+}
+
+// The number in two, four or eight bytes from a place on.
+fn half(p: &[u8; 16], i: usize) -> u16
+    requires { ⌜ i < 15 ⌝ }
+    ensures { λ r. ⌜ r ≡ field (now (p .entry)) i 2 ⌝ }
+{
+    let a = wide(p[i]);
+    let b = wide(p[i + 1]);
+    (a * 256 + b) as u16
+}
+
+fn word(p: &[u8; 16], i: usize) -> u32
+    requires { ⌜ i < 13 ⌝ }
+    ensures { λ r. ⌜ r ≡ field (now (p .entry)) i 4 ⌝ }
+{
+    let a = wide(p[i]);
+    let b = wide(p[i + 1]);
+    let c = wide(p[i + 2]);
+    let d = wide(p[i + 3]);
+    ((a * 256 + b) * 256 + c) * 256 + d
+}
+
+fn joined(high: u32, low: u32) -> u64
+    ensures { λ r. ⌜ r ≡ high * 4294967296 + low ⌝ }
+{
+    (high as u64) * 4_294_967_296 + (low as u64)
+}
+
+// The number in one, two, four or eight bytes at a place that a record has a field at.
+pub fn byte_at_1(p: &[u8; 16]) -> u8
+    ensures { λ r. ⌜ r ≡ field (now (p .entry)) 1 1 ⌝ }
+{
+    p[1]
+}
+
+pub fn half_at_1(p: &[u8; 16]) -> u16
+    ensures { λ r. ⌜ r ≡ field (now (p .entry)) 1 2 ⌝ }
+{
+    half(p, 1)
+}
+
+pub fn half_at_2(p: &[u8; 16]) -> u16
+    ensures { λ r. ⌜ r ≡ field (now (p .entry)) 2 2 ⌝ }
+{
+    half(p, 2)
+}
+
+pub fn half_at_7(p: &[u8; 16]) -> u16
+    ensures { λ r. ⌜ r ≡ field (now (p .entry)) 7 2 ⌝ }
+{
+    half(p, 7)
+}
+
+pub fn word_at_1(p: &[u8; 16]) -> u32
+    ensures { λ r. ⌜ r ≡ field (now (p .entry)) 1 4 ⌝ }
+{
+    word(p, 1)
+}
+
+pub fn word_at_3(p: &[u8; 16]) -> u32
+    ensures { λ r. ⌜ r ≡ field (now (p .entry)) 3 4 ⌝ }
+{
+    word(p, 3)
+}
+
+pub fn long_at_5(p: &[u8; 16]) -> u64
+    ensures { λ r. ⌜ r ≡ field (now (p .entry)) 5 8 ⌝ }
+{
+    joined(word(p, 5), word(p, 9))
+}
+
+// Class, setting and volume of a target's record.
+pub fn facts(p: &[u8; 16]) -> Target
+    ensures { λ r. ⌜ r ≡ factsAt (now (p .entry)) ⌝ }
+{
+    let volume = word(p, 5);
+    Target {
+        class: p[3],
+        setting: p[4],
+        volume: volume,
+    }
+}

@@ -1,0 +1,11 @@
+-- `steps::refuse` meets its contract. Assumes nothing.
+use Rattle.model.specs.Machine.{refusedWith}
+use Rattle.steps.proofs.reading.refuse.Statement.{statement}
+use Rattle.steps.proofs.reading.refuse.Tie as tie
+
+returns : tie.Need-returns
+unfolding refusedWith
+returns c = cc
+
+pub refuse-spec : {M : Type 1} → statement M
+refuse-spec = tie.close (tie.spec returns)

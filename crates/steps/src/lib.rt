@@ -1,0 +1,31 @@
+// What each record does to the parts of a study that go by value (the machine of the crate model).
+mod cores;
+mod counting;
+mod reading;
+mod reports;
+mod rows;
+mod tallying;
+
+pub use cores::core_branching;
+pub use cores::core_closing;
+pub use cores::core_effect;
+pub use cores::core_leak;
+pub use cores::core_opening;
+pub use cores::core_outcome;
+pub use cores::core_reading;
+pub use cores::core_target;
+pub use counting::PackedBranches;
+pub use counting::pack;
+pub use counting::pack_branches;
+pub use reading::begin;
+pub use reading::grow;
+pub use reading::piece_number;
+pub use reading::piece_place;
+pub use reading::refuse;
+pub use reports::marked;
+pub use reports::refused_target;
+pub use reports::report_row;
+pub use reports::report_totals;
+pub use rows::add_effect;
+pub use rows::judge_effect;
+pub use rows::pack_facts;

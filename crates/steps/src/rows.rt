@@ -1,0 +1,60 @@
+// What a study keeps of one target.
+ghost use mathlib.Core.Path.{_≡_};
+ghost use Rattle.terms.specs.Terms.{seconds};
+ghost use Rattle.vulnerability.specs.Effect.{effectOn};
+ghost use Rattle.model.specs.Machine.{packedFacts, unpackedFacts, markedFacts, rowAfter};
+use state::Branch;
+use state::Row;
+use terms::Judged;
+use terms::Target;
+
+// A target's facts in one number, the lowest bit its mark on the domino list.
+pub fn pack_facts(f: Target) -> u64
+    ensures { λ r. ⌜ r ≡ packedFacts f ⌝ }
+{
+    let volume = f.volume as u64;
+    let class = (f.class % 8) as u64;
+    let setting = (f.setting % 4) as u64;
+    volume * 64 + class * 8 + setting * 2
+}
+
+fn unpack_facts(x: u64) -> Target
+    ensures { λ r. ⌜ r ≡ unpackedFacts x ⌝ }
+{
+    Target {
+        class: (x / 8 % 8) as u8,
+        setting: (x / 2 % 4) as u8,
+        volume: (x / 64 % 4_294_967_296) as u32,
+    }
+}
+
+// The chance of an effect on the target with these facts, in the outcome at hand, and whether a rule judged it.
+pub fn judge_effect(b: Branch, facts: u64, intensity: u32, duration: u16) -> Judged
+    ensures { λ r. ⌜ r ≡ effectOn seconds (unpackedFacts facts) (b .kind) intensity duration ⌝ }
+{
+    vulnerability::effect(unpack_facts(facts), b.kind, intensity, duration)
+}
+
+// Equipment is marked by an effect that lists it.
+fn mark(x: u64, chance: u32, leak: u64) -> u64
+    ensures { λ r. ⌜ r ≡ markedFacts x chance leak ⌝ }
+{
+    if x / 8 % 8 == 0 {
+        return x;
+    }
+    if vulnerability::listed(chance, leak) {
+        return x / 2 * 2 + 1;
+    }
+    x
+}
+
+// An effect of a chance on one target.
+pub fn add_effect(w: Row, b: Branch, chance: u32) -> Row
+    ensures { λ r. ⌜ r ≡ rowAfter w b chance ⌝ }
+{
+    Row {
+        sum: numeric::add64(w.sum, numeric::share(b.frequency, chance)),
+        margin: numeric::add32(w.margin, (b.above as u32) + 1),
+        facts: mark(w.facts, chance, b.leak),
+    }
+}

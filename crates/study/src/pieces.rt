@@ -1,0 +1,51 @@
+// Pieces.
+ghost use mathlib.Core.Path.{_≡_};
+ghost use lib.ListN.{length};
+ghost use Rattle.model.specs.Machine.{readAll, numberAfter, placeAfter};
+ghost use Rattle.study.specs.View.{view};
+use crate::Study;
+use crate::records::read_byte;
+
+// A piece is read: the study after it, with the number and the place of the answer.
+pub struct Taken {
+    pub study: Study,
+    pub number: u8,
+    pub place: u64,
+}
+
+impl Study {
+    // Reads a piece. The arrays are copied once and lent in the loop.
+    pub fn piece(self, bytes: &[u8]) -> Taken
+        ensures { λ r. ⌜ view (r .study) ≡ readAll (view self) (now (bytes .entry)) ⌝ }
+        ensures { λ r. ⌜ r .number ≡ numberAfter (self .core .reading .place) (length (now (bytes .entry))) (readAll (view self) (now (bytes .entry)) .core .reading) ⌝ }
+        ensures { λ r. ⌜ r .place ≡ placeAfter (readAll (view self) (now (bytes .entry)) .core .reading) ⌝ }
+    {
+        let mut core = self.core;
+        let mut pending = self.pending;
+        let mut stack = self.stack;
+        let mut sums = self.sums;
+        let mut margins = self.margins;
+        let mut facts = self.facts;
+        let before = core.reading.place;
+        let mut i = 0;
+        while i < bytes.len() {
+            core = read_byte(core, bytes[i], &mut pending, &mut stack, &mut sums, &mut margins, &mut facts);
+            i += 1;
+        }
+        let h = core.reading;
+        let number = steps::piece_number(before, bytes.len() as u64, h);
+        let place = steps::piece_place(h);
+        Taken {
+            study: Study {
+                core: core,
+                pending: pending,
+                stack: stack,
+                sums: sums,
+                margins: margins,
+                facts: facts,
+            },
+            number: number,
+            place: place,
+        }
+    }
+}
