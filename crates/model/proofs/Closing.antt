@@ -1,8 +1,8 @@
--- A study is closed exactly when its bytes begin with those of a valid content. Demand 3. Assumes nothing.
+-- A study is closed exactly when its bytes begin with those of a valid content. A refusal and a closing stay. Demand 3. Assumes nothing.
 use mathlib.Core.Path.{_≡_, refl, sym, _∙_, ap, ap₂, subst}
 use mathlib.Core.Logic.{_⊎_, inl, inr}
 use mathlib.Core.List.{List, [], _∷_, _++_, append-assoc, append-nil, map, map-append}
-use Prim.Native.Nat.{ℕ, _+_, _-_, _<_}
+use Prim.Native.Nat.{ℕ, _+_, _<_}
 use native.Mathlib.Nat.{add-assoc, add-zero}
 use native.Mathlib.Decide.{ℕ-discrete}
 use native.Mathlib.Omega.{arith}
@@ -19,7 +19,7 @@ use Rattle.model.specs.Faults.{Context, start, role, fault, contextAfter
 use Rattle.model.specs.Verdict.{decode, cut, contentOf, Verdict, unclosed, closed, refused, judgeLeft, judge, verdict}
 use Rattle.model.specs.Calls.{Call, totals, target, gaveTotals, gaveTarget, totalsOf, targetReportOf, joinedAfter, joined, Bytes, Callable}
 use Rattle.model.specs.Machine.{State, readAll, fresh, stateAfterAll, answerIn}
-use Rattle.model.specs.MachineTheorems.{Answers, ClosedFront, ClosedExactlyThen, ClosedContent, TotalsHold, Near, Nought, TargetHolds, Demand3}
+use Rattle.model.specs.MachineTheorems.{Answers, ClosedFront, ClosedExactlyThen, ClosedContent, RefusalStays, ClosingStays, TotalsHold, Near, Nought, TargetHolds, Demand3}
 use Rattle.model.proofs.ListLaws.{each-parts, join-append, join-one, each-join}
 use Rattle.model.proofs.Accepts.{Accepts, Fits, WholeBytes}
 use Rattle.model.proofs.CodecLaws.{decode-encode, encode-decode, decode-fits, encode-bytes}
@@ -148,6 +148,37 @@ verdict-front l p c y v =
     rw j at
     (front-of (cut l .whole) (cut l .left) start 0 [] p c accepts-none refl tt (cut-each l) (bytes-each (cut l .whole) (cut l .left) (rw j y)) v)
 
+-- a study that is closed or refused stays so, whatever follows
+ended-stays : (l more : List ℕ) → (readAll fresh l .core .reading .phase ≡ 0 → ⊥) → readAll fresh (l ++ more) ≡ readAll fresh l
+ended-stays l more h = read-append fresh l more ∙ read-stays (readAll fresh l) more h
+
+-- a phase of 2 is that of a refusal
+phase-refused : (s : State) (total n p : ℕ) (v : Verdict) → Agrees s total v → s .core .reading .phase ≡ 2 → s .core .reading .number ≡ n → s .core .reading .at ≡ p → v ≡ refused n p
+unfolding Agrees
+phase-refused s total n p unclosed a h i j = let k = a .0 in let z : ⊥ = omega arith in absurd z
+phase-refused s total n p (refused m q) a h i j = ap₂ refused (sym (a .1) ∙ i) (sym (a .2) ∙ j)
+phase-refused s total n p (closed q c) a h i j = let k = a .phase in let z : ⊥ = omega arith in absurd z
+
+pub refusal-stays : RefusalStays
+unfolding Agrees
+refusal-stays l more n p y e =
+    let f = fresh-agrees closes l (each-parts (λ (b : ℕ). b < 256) l more y .0) in
+    let a : Agrees (readAll fresh l) (length l) (refused n p) = subst (Agrees (readAll fresh l) (length l)) e f in
+    let h = a .0 in
+    let q = ended-stays l more (λ z. omega arith) in
+    phase-refused (readAll fresh (l ++ more)) (length (l ++ more)) n p (verdict (l ++ more)) (fresh-agrees closes (l ++ more) y) (rw q h) (rw q (a .1)) (rw q (a .2))
+
+pub closing-stays : ClosingStays
+closing-stays l more p c y e =
+    let f = verdict-front l p c (each-parts (λ (b : ℕ). b < 256) l more y .0) e in
+    let b : List ℕ = bytesOf (f .content) in
+    ap (λ (x : List ℕ). verdict (x ++ more)) (f .same)
+    ∙ ap verdict (append-assoc b (f .tail) more)
+    ∙ closed-content (f .content) (f .valid) (f .tail ++ more)
+    ∙ sym (closed-content (f .content) (f .valid) (f .tail))
+    ∙ ap verdict (sym (f .same))
+    ∙ e
+
 -- the bytes of calls
 calls-bytes : (before : List ℕ) (cs : List Call) → Bytes before → Each Callable cs → Bytes (joined before cs)
 unfolding joined
@@ -167,8 +198,7 @@ content-closed c v tail =
     let a : ClosedState (readAll fresh (bytesOf c)) (length (bytesOf c)) (length (bytesOf c)) c =
     subst (Agrees (readAll fresh (bytesOf c)) (length (bytesOf c))) e (fresh-agrees closes (bytesOf c) (content-bytes c)) in
     let p = a .phase in
-    let q : readAll fresh (bytesOf c ++ tail) ≡ readAll fresh (bytesOf c) =
-    read-append fresh (bytesOf c) tail ∙ read-stays (readAll fresh (bytesOf c)) tail (λ z. omega arith) in
+    let q = ended-stays (bytesOf c) tail (λ z. omega arith) in
     subst (λ (s : State). ClosedState s (length (bytesOf c)) (length (bytesOf c)) c) (sym q) a
 
 -- a phase of 1 is that of a closed verdict
