@@ -6,7 +6,6 @@ use native.Mathlib.Omega.{arith}
 use lib.ListN.{length}
 use Rattle.model.specs.Bounds.{mostRecords}
 use Rattle.model.specs.Format.{Record}
-use Rattle.model.specs.Valid.{Each}
 use Rattle.model.specs.Faults.{Context, ownFault, contextAfter, contextAfterAll}
 use Rattle.model.specs.MachineTheorems.{AllAllowed}
 use Rattle.model.proofs.Accepts.{Accepts}
@@ -55,12 +54,3 @@ pub own-parts : (x : Context) (a b : List Record) → AllOwn x (a ++ b) → AllO
 unfolding AllOwn contextAfterAll
 own-parts x [] b h = (tt, h)
 own-parts x (r ∷ a) b h = let w = own-parts (contextAfter x r) a b (h .1) in ((h .0, w .0), w .1)
-
-module _ {A : Type 0} (P : A → Type 0) where
-  pub each-append : (a b : List A) → Each P a → Each P b → Each P (a ++ b)
-  each-append [] b h i = i
-  each-append (x ∷ a) b h i = (h .0, each-append a b (h .1) i)
-
-  pub each-parts : (a b : List A) → Each P (a ++ b) → Each P a × Each P b
-  each-parts [] b h = (tt, h)
-  each-parts (x ∷ a) b h = let w = each-parts a b (h .1) in ((h .0, w .0), w .1)

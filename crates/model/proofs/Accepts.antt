@@ -3,11 +3,9 @@ use mathlib.Core.Path.{_≡_}
 use mathlib.Core.List.{List, [], _∷_}
 use Prim.Native.Nat.{ℕ, _^_, _<_}
 use lib.ListN.{length}
-use Rattle.model.specs.Content.{Branching, given, Target, described, Effect, inSeconds}
+use Rattle.model.specs.Content.{given, described, inSeconds}
 use Rattle.model.specs.Format.{Record, openingRec, targetRec, leakRec, branchingRec, outcomeRec, effectRec, closingRec}
 use Rattle.model.specs.Faults.{Context, role, fault, contextAfter}
-use Rattle.model.specs.Valid.{Each}
-use Rattle.model.specs.Calls.{Bytes}
 use Rattle.model.specs.Verdict.{bodyLength}
 
 -- each record is without fault where it stands, and none is the closing one

@@ -1,16 +1,13 @@
 -- The machine says of bytes what the verdict says. Assumes nothing.
 use mathlib.Core.Path.{_≡_, refl, sym, _∙_, ap, subst}
-use mathlib.Core.List.{List, [], _∷_, _++_, append-assoc, append-nil}
-use Prim.Native.Nat.{ℕ, zero, suc, _+_, _-_, _*_, _<_, _≤_, min}
-use native.Mathlib.Nat.{add-assoc, le-refl}
+use mathlib.Core.List.{List, [], _∷_, _++_, append-assoc}
+use Prim.Native.Nat.{ℕ, _+_, _-_, _<_, _≤_}
 use native.Mathlib.Decide.{ℕ-discrete}
 use native.Mathlib.Omega.{arith}
-use lib.ListN.{length, getD, drop, length-append}
+use lib.ListN.{length, length-append}
 use Rattle.numeric.specs.Choice.{ifEq, ifLt}
 use Rattle.numeric.proofs.ChoiceLaws.{eq-case, ne-case}
 use Rattle.state.specs.declared.Reading.{Reading}
-use Rattle.state.specs.declared.Totals.{Totals}
-use Rattle.model.specs.Bounds.{mostRecords}
 use Rattle.model.specs.Content.{Content}
 use Rattle.model.specs.Sums.{joinOver}
 use Rattle.model.specs.Format.{Record, openingRec, targetRec, leakRec, branchingRec, outcomeRec, effectRec, closingRec}
@@ -19,11 +16,13 @@ use Rattle.model.specs.Report.{dominoOf}
 use Rattle.model.specs.Faults.{Context, start, role, fault, contextAfter, contextAfterAll}
 use Rattle.model.specs.Verdict.{bodyLength, decode, cut, contentOf, Verdict, unclosed, closed, refused, judgeLeft, judge, verdict}
 use Rattle.model.specs.Calls.{Bytes, totalsOf, targetReportOf, noTarget}
-use Rattle.model.specs.Machine.{State, most64, withReading, refusedWith, reading, begun, taken, core, ownFaultIn, faultIn, effectState, accepted, recordRead, step, readAll, fresh, totalsIn, targetIn, markedIn}
-use Rattle.model.proofs.Accepts.{Accepts, Fits, Whole, WholeBytes}
+use Rattle.model.specs.Machine.{State, withReading, refusedWith, reading, begun, taken, core, ownFaultIn, faultIn, effectState, accepted, recordRead, step, readAll, fresh, totalsIn, targetIn, markedIn}
+use Rattle.model.proofs.ListLaws.{each-append, each-parts}
+use Rattle.model.proofs.ContextLaws.{after-append}
+use Rattle.model.proofs.Accepts.{Accepts, Fits, WholeBytes}
 use Rattle.model.proofs.CodecLaws.{decode-fits, pending-decode, body-most}
 use Rattle.model.proofs.CutLaws.{Left, nothing, unknown, short, cut-joined, cut-each, cut-left}
-use Rattle.model.proofs.ReadLaws.{Ready, partial, read-append, read-stays, read-whole, read-short}
+use Rattle.model.proofs.ReadLaws.{Ready, partial, read-stays, read-whole, read-short}
 use Rattle.model.proofs.Follows.{pile, aboves, Placed, Follows, same-fault, follows-record}
 use Rattle.model.proofs.RunData.{Data, dataOf, after, run, data-accepted, run-append}
 
@@ -71,12 +70,10 @@ accepts-more x (q ∷ rs) r a e n = (a .0, a .1, accepts-more (contextAfter x q)
 
 pub context-more : (x : Context) (rs : List Record) (r : Record) → contextAfterAll x (rs ++ (r ∷ [])) ≡ contextAfter (contextAfterAll x rs) r
 unfolding contextAfterAll
-context-more x [] r = refl
-context-more x (q ∷ rs) r = context-more (contextAfter x q) rs r
+context-more x rs r = after-append x rs (r ∷ [])
 
 pub fits-more : (rs : List Record) (r : Record) → Each Fits rs → Fits r → Each Fits (rs ++ (r ∷ []))
-fits-more [] r f g = (g, tt)
-fits-more (q ∷ rs) r f g = (f .0, fits-more rs r (f .1) g)
+fits-more rs r f g = each-append Fits rs (r ∷ []) f (g, tt)
 
 run-one : (d : Data) (r : Record) → run d (r ∷ []) ≡ after d r
 unfolding run
@@ -263,20 +260,13 @@ unfolding contextAfterAll Accepts run
 here-fresh = record { follows = follows-fresh; accepts = tt; context = refl; fits = tt; figures = refl }
 
 -- each part of bytes is bytes
-bytes-first : (a b : List ℕ) → Bytes (a ++ b) → Bytes a
-bytes-first [] b y = tt
-bytes-first (x ∷ a) b y = (y .0, bytes-first a b (y .1))
-
-bytes-second : (a b : List ℕ) → Bytes (a ++ b) → Bytes b
-bytes-second [] b y = y
-bytes-second (x ∷ a) b y = bytes-second a b (y .1)
-
 pub bytes-each : (bs : List (List ℕ)) (left : List ℕ) → Bytes (joinOver (λ b. b) bs ++ left) → Each Bytes bs
 unfolding joinOver
 bytes-each [] left y = tt
 bytes-each (b ∷ bs) left y =
     let z : Bytes (b ++ (joinOver (λ b. b) bs ++ left)) = rw append-assoc at y in
-    (bytes-first b (joinOver (λ b. b) bs ++ left) z, bytes-each bs left (bytes-second b (joinOver (λ b. b) bs ++ left) z))
+    let w = each-parts (λ (n : ℕ). n < 256) b (joinOver (λ b. b) bs ++ left) z in
+    (w .0, bytes-each bs left (w .1))
 
 fresh-length : (l : List ℕ) → fresh .core .reading .place + length l ≡ length l
 unfolding fresh

@@ -1,7 +1,7 @@
 -- Every call is answered from the bytes joined before it. Assumes nothing.
 use mathlib.Core.Path.{_≡_, refl, sym, _∙_, ap, ap₂, subst}
 use mathlib.Core.List.{List, [], _∷_, _++_}
-use Prim.Native.Nat.{ℕ, zero, suc, _+_, _-_, _<_, _≤_}
+use Prim.Native.Nat.{ℕ, _+_, _-_, _<_, _≤_}
 use native.Mathlib.Nat.{sub-self, sub-eq-zero-of-le}
 use native.Mathlib.Decide.{ℕ-discrete, decLe, decLt}
 use native.Mathlib.Omega.{arith}
@@ -9,15 +9,15 @@ use lib.ListN.{length, length-append}
 use Rattle.numeric.specs.Choice.{ifEq, ifLe, ifLt}
 use Rattle.numeric.proofs.ChoiceLaws.{eq-case, ne-case, le-case, gt-case, lt-case, ge-case}
 use Rattle.state.specs.declared.Reading.{Reading}
-use Rattle.model.specs.Content.{Content}
 use Rattle.model.specs.Valid.{Each}
 use Rattle.model.specs.Report.{dominoOf}
 use Rattle.model.specs.Verdict.{Verdict, unclosed, closed, refused, verdict}
-use Rattle.model.specs.Calls.{Call, piece, totals, target, domino, Answer, tookPiece, gaveTotals, gaveTarget, gaveDomino, noTotals, noTarget, noDomino, totalsOf, front, pieceNumber, pieceAnswer, totalsAnswer, targetAnswer, dominoAnswer, answer, joinedAfter, joined, answers, Bytes, Callable}
+use Rattle.model.specs.Calls.{Call, piece, totals, target, domino, Answer, tookPiece, gaveTotals, gaveTarget, gaveDomino, noTotals, noTarget, noDomino, front, pieceNumber, pieceAnswer, totalsAnswer, targetAnswer, dominoAnswer, answer, joinedAfter, joined, answers, Bytes, Callable}
 use Rattle.model.specs.Machine.{State, readAll, fresh, numberAfter, placeAfter, totalsIn, targetIn, markedIn, dominoIn, lentAfter, stateAfter, answerIn, stateAfterAll, answersIn}
 use Rattle.model.specs.MachineTheorems.{Answers, CutsMakeNoDifference}
+use Rattle.model.proofs.ListLaws.{each-append}
 use Rattle.model.proofs.ReadLaws.{read-append, read-stays}
-use Rattle.model.proofs.Agreement.{ClosedState, Agrees, Closes, fresh-agrees}
+use Rattle.model.proofs.Agreement.{Agrees, Closes, fresh-agrees}
 
 -- ---- cuts
 
@@ -92,8 +92,7 @@ report-domino s total l (closed p c) a = room (decLe (length (dominoOf c)) (leng
         (sym (eq-case _ _ _ _ (a .phase) (gt-case _ _ _ _ (omega (arith, m)) refl))))
 
 pub bytes-join : (a b : List ℕ) → Bytes a → Bytes b → Bytes (a ++ b)
-bytes-join [] b y z = z
-bytes-join (x ∷ a) b y z = (y .0, bytes-join a b (y .1) z)
+bytes-join a b y z = each-append (λ (n : ℕ). n < 256) a b y z
 
 pub joined-bytes : (before : List ℕ) (c : Call) → Bytes before → Callable c → Bytes (joinedAfter before c)
 unfolding joinedAfter Callable

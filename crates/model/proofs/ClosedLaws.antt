@@ -1,41 +1,31 @@
 -- A study is closed exactly when its bytes begin with those of a valid content, and then its reports are the content's. Assumes nothing.
 use mathlib.Core.Path.{_≡_, refl, sym, _∙_, ap, ap₂, subst}
 use mathlib.Core.Bool.{Bool}
-use mathlib.Core.List.{List, [], _∷_, _++_, append-assoc, append-nil}
-use Prim.Native.Nat.{ℕ, zero, suc, _+_, _-_, _*_, _/_, _%_, _<_, _≤_, min}
-use native.Mathlib.Nat.{add-assoc, min-eq-left}
-use native.Mathlib.Decide.{ℕ-discrete, decLt}
+use mathlib.Core.List.{List, [], _∷_, _++_}
+use Prim.Native.Nat.{ℕ, zero, suc, _+_, _-_, _/_, _%_, _<_, min}
+use native.Mathlib.Decide.{decLt}
 use native.Mathlib.Omega.{arith}
-use lib.ListN.{length, getD, length-append}
-use Rattle.numeric.specs.Choice.{pick, ifEq, ifLt}
+use lib.ListN.{length, getD}
+use Rattle.numeric.specs.Choice.{pick, ifLt}
 use Rattle.numeric.proofs.ChoiceLaws.{eq-case, ne-case, lt-case, ge-case}
-use Rattle.terms.specs.Terms.{people}
 use Rattle.terms.specs.declared.Target.{Target as Facts}
 use Rattle.state.specs.declared.Counts.{Counts}
 use Rattle.state.specs.declared.Tally.{Tally}
 use Rattle.state.specs.declared.Core.{Core}
 use Rattle.state.specs.declared.Row.{Row}
-use Rattle.model.specs.Bounds.{mostRecords, mostTargets}
 use Rattle.model.specs.Content.{facts, Content}
-use Rattle.model.specs.Sums.{joinOver, numbersBelow}
-use Rattle.model.specs.Format.{Record, closingRec, encode, openRecords, countOf, leaksOf, recordsOf, bytesOf}
-use Rattle.model.specs.Valid.{Each, Valid}
-use Rattle.model.specs.Report.{targetAt, kindTotal, unjudgedOf, sumAt, marginAt, gradeOf, listedAt, dominoOf}
-use Rattle.model.specs.Faults.{Context, start, role, fault, contextAfter, contextAfterAll}
-use Rattle.model.specs.Verdict.{bodyLength, decode, cut, contentOf, Verdict, unclosed, closed, refused, judgeLeft, judge, verdict}
-use Rattle.model.specs.Calls.{Bytes, totalsOf, targetReportOf, noTarget}
+use Rattle.model.specs.Sums.{numbersBelow}
+use Rattle.model.specs.Format.{closingRec, openRecords, countOf, leaksOf}
+use Rattle.model.specs.Valid.{Valid}
+use Rattle.model.specs.Report.{targetAt, kindTotal, unjudgedOf, sumAt, marginAt, listedAt, dominoOf}
+use Rattle.model.specs.Verdict.{contentOf}
+use Rattle.model.specs.Calls.{totalsOf, targetReportOf, noTarget}
 use Rattle.model.specs.Machine.{State, oneRecord, taken, markOf, unpackedFacts, rowAt, accepted, fresh, totalsIn, rowReport, targetIn, markedIn}
-use Rattle.model.specs.MachineTheorems.{ClosedContent}
-use Rattle.model.proofs.Accepts.{Accepts, Fits, WholeBytes}
-use Rattle.model.proofs.CodecLaws.{decode-encode, encode-decode, decode-fits, encode-whole, encode-bytes}
-use Rattle.model.proofs.CutLaws.{encodings, cut-records, cut-joined, cut-each}
 use Rattle.model.proofs.ReadLaws.{partial}
-use Rattle.model.proofs.Follows.{Follows}
-use Rattle.model.proofs.RunData.{Data, dataOf, run}
-use Rattle.model.proofs.Agreement.{ClosedState, Here, Closes, closing-role}
-use Rattle.model.proofs.Complete.{ContentAccepted, content-accepted}
-use Rattle.model.proofs.Sound.{AcceptedValid, accepted-valid}
-use Rattle.model.proofs.Runs.{RowIs, Reported, run-content}
+use Rattle.model.proofs.RunData.{dataOf, run}
+use Rattle.model.proofs.Agreement.{Closes}
+use Rattle.model.proofs.Sound.{accepted-valid}
+use Rattle.model.proofs.Runs.{Reported, run-content}
 
 -- ---- the reports of a closed study are the content's
 

@@ -1,16 +1,14 @@
--- A study is closed exactly when its bytes begin with those of a valid content. Demand 3. Assumes nothing.
+-- A study is closed exactly when its bytes begin with those of a valid content. A refusal and a closing stay. Demand 3. Assumes nothing.
 use mathlib.Core.Path.{_≡_, refl, sym, _∙_, ap, ap₂, subst}
-use mathlib.Core.Logic.{_⊎_, inl, inr, ⊎-elim}
-use mathlib.Core.List.{List, [], _∷_, _++_, append-assoc, append-nil}
-use Prim.Native.Nat.{ℕ, zero, suc, _+_, _-_, _*_, _^_, _<_, _≤_}
+use mathlib.Core.Logic.{_⊎_, inl, inr}
+use mathlib.Core.List.{List, [], _∷_, _++_, append-assoc, append-nil, map, map-append}
+use Prim.Native.Nat.{ℕ, _+_, _<_}
 use native.Mathlib.Nat.{add-assoc, add-zero}
 use native.Mathlib.Decide.{ℕ-discrete}
 use native.Mathlib.Omega.{arith}
 use lib.ListN.{length, length-append}
-use Rattle.numeric.specs.Choice.{ifEq, ifLt}
-use Rattle.numeric.proofs.ChoiceLaws.{eq-case, ne-case, lt-case, eq-first, eq-second}
-use Rattle.state.specs.declared.Totals.{Totals}
-use Rattle.state.specs.declared.TargetReport.{TargetReport}
+use Rattle.numeric.specs.Choice.{ifEq}
+use Rattle.numeric.proofs.ChoiceLaws.{eq-case, ne-case, lt-case, eq-first}
 use Rattle.model.specs.Content.{Content}
 use Rattle.model.specs.Sums.{sumOver, joinOver}
 use Rattle.model.specs.Format.{Record, closingRec, encode, openRecords, countOf, leaksOf, recordsOf, bytesOf}
@@ -18,18 +16,19 @@ use Rattle.model.specs.Valid.{Each, Valid}
 use Rattle.model.specs.Report.{sumAt, marginAt}
 use Rattle.model.specs.MeaningTheorems.{Within, Unnamed}
 use Rattle.model.specs.Faults.{Context, start, role, fault, contextAfter, contextAfterAll}
-use Rattle.model.specs.Verdict.{bodyLength, decode, cut, contentOf, Verdict, unclosed, closed, refused, judgeLeft, judge, verdict}
-use Rattle.model.specs.Calls.{Call, totals, target, gaveTotals, gaveTarget, totalsOf, targetReportOf, noTarget, joinedAfter, joined, Bytes, Callable}
-use Rattle.model.specs.Machine.{State, readAll, fresh, totalsIn, targetIn, stateAfterAll, answerIn}
-use Rattle.model.specs.MachineTheorems.{Answers, ClosedFront, ClosedExactlyThen, ClosedContent, TotalsHold, Near, Nought, TargetHolds, DemandHolds, Demand3}
+use Rattle.model.specs.Verdict.{decode, cut, contentOf, Verdict, unclosed, closed, refused, judgeLeft, judge, verdict}
+use Rattle.model.specs.Calls.{Call, totals, target, gaveTotals, gaveTarget, totalsOf, targetReportOf, joinedAfter, joined, Bytes, Callable}
+use Rattle.model.specs.Machine.{State, readAll, fresh, stateAfterAll, answerIn}
+use Rattle.model.specs.MachineTheorems.{Answers, ClosedFront, ClosedExactlyThen, ClosedContent, RefusalStays, ClosingStays, TotalsHold, Near, Nought, TargetHolds, Demand3}
+use Rattle.model.proofs.ListLaws.{each-parts, join-append, join-one, each-join}
 use Rattle.model.proofs.Accepts.{Accepts, Fits, WholeBytes}
 use Rattle.model.proofs.CodecLaws.{decode-encode, encode-decode, decode-fits, encode-bytes}
-use Rattle.model.proofs.CutLaws.{encodings, cut-records, cut-joined, cut-each}
+use Rattle.model.proofs.CutLaws.{cut-records, cut-joined, cut-each}
 use Rattle.model.proofs.ReadLaws.{read-append, read-stays}
 use Rattle.model.proofs.Agreement.{ClosedState, Agrees, closing-role, accepts-more, context-more, fits-more, bytes-each, fresh-agrees}
-use Rattle.model.proofs.CallLaws.{cuts-make-no-difference, all-answers, bytes-join, joined-bytes}
-use Rattle.model.proofs.Complete.{ContentAccepted, content-accepted}
-use Rattle.model.proofs.Sound.{AcceptedValid, accepted-valid}
+use Rattle.model.proofs.CallLaws.{cuts-make-no-difference, all-answers, joined-bytes}
+use Rattle.model.proofs.Complete.{content-accepted}
+use Rattle.model.proofs.Sound.{accepted-valid}
 use Rattle.model.proofs.ClosedLaws.{closes}
 use Rattle.model.proofs.Totals.{kinds-add-up}
 use Rattle.model.proofs.Margin.{sums-within-margin}
@@ -40,14 +39,9 @@ answers-hold = all-answers closes
 
 -- ---- the bytes of a valid content close the study
 
-join-more : (a b : List Record) → joinOver encode (a ++ b) ≡ joinOver encode a ++ joinOver encode b
-unfolding joinOver
-join-more [] b = refl
-join-more (r ∷ a) b = ap (λ (x : List ℕ). encode r ++ x) (join-more a b) ∙ sym (append-assoc (encode r) (joinOver encode a) (joinOver encode b))
-
 -- records without fault are judged one after the other
 judge-records : (rs : List Record) (x : Context) (place : ℕ) (taken : List Record) (more : List (List ℕ)) (left : List ℕ) → Accepts x rs → Each Fits rs
-    → judge x place taken (encodings rs ++ more) left ≡ judge (contextAfterAll x rs) (place + length (joinOver encode rs)) (taken ++ rs) more left
+    → judge x place taken (map encode rs ++ more) left ≡ judge (contextAfterAll x rs) (place + length (joinOver encode rs)) (taken ++ rs) more left
 unfolding judge Accepts contextAfterAll joinOver
 judge-records [] x place taken more left a f = rw (append-nil taken, add-zero place) refl
 judge-records (r ∷ rs) x place taken more left a f =
@@ -64,36 +58,20 @@ judge-closing : (x : Context) (place n t : ℕ) (taken : List Record) (more : Li
 unfolding judge
 judge-closing x place n t taken more left e f = rw (decode-encode (closingRec n t) f) (sym (eq-case _ _ _ _ e (eq-case _ _ _ _ refl refl)))
 
-each-first : (a b : List Record) → Each Fits (a ++ b) → Each Fits a
-each-first [] b f = tt
-each-first (r ∷ a) b f = (f .0, each-first a b (f .1))
-
-each-last : (a : List Record) (r : Record) → Each Fits (a ++ (r ∷ [])) → Fits r
-each-last [] r f = f .0
-each-last (q ∷ a) r f = each-last a r (f .1)
-
-encodings-more : (a b : List Record) → encodings (a ++ b) ≡ encodings a ++ encodings b
-encodings-more [] b = refl
-encodings-more (r ∷ a) b = ap (λ (x : List (List ℕ)). encode r ∷ x) (encodings-more a b)
-
-join-one : (r : Record) → joinOver encode (r ∷ []) ≡ encode r
-unfolding joinOver
-join-one r = append-nil (encode r)
-
 pub closed-content : ClosedContent
 unfolding verdict bytesOf recordsOf
 closed-content c v tail =
     let a = content-accepted c v in
     let q : Record = closingRec (countOf c) (leaksOf c) in
-    let f : Each Fits (openRecords c ++ (q ∷ [])) = a .fits in
+    let f = each-parts Fits (openRecords c) (q ∷ []) (a .fits) in
     let k = cut-records (openRecords c ++ (q ∷ [])) tail in
-    let w = k .0 ∙ ap (λ (x : List (List ℕ)). x ++ cut tail .whole) (encodings-more (openRecords c) (q ∷ [])) ∙ append-assoc (encodings (openRecords c)) (encode q ∷ []) (cut tail .whole) in
+    let w = k .0 ∙ ap (λ (x : List (List ℕ)). x ++ cut tail .whole) (map-append encode (openRecords c) (q ∷ [])) ∙ append-assoc (map encode (openRecords c)) (encode q ∷ []) (cut tail .whole) in
     let b : length (joinOver encode (openRecords c ++ (q ∷ []))) ≡ 0 + length (joinOver encode (openRecords c)) + length (encode q) =
-    ap length (join-more (openRecords c) (q ∷ []) ∙ ap (λ (x : List ℕ). joinOver encode (openRecords c) ++ x) (join-one q))
+    ap length (join-append encode (openRecords c) (q ∷ []) ∙ ap (λ (x : List ℕ). joinOver encode (openRecords c) ++ x) (join-one encode q))
     ∙ length-append (joinOver encode (openRecords c)) (encode q) ∙ omega arith in
     ap (λ (l : List (List ℕ)). judge start 0 [] l (cut (joinOver encode (openRecords c ++ (q ∷ [])) ++ tail) .left)) w
-    ∙ judge-records (openRecords c) start 0 [] (encode q ∷ cut tail .whole) (cut (joinOver encode (openRecords c ++ (q ∷ [])) ++ tail) .left) (a .accepts) (each-first (openRecords c) (q ∷ []) f)
-    ∙ judge-closing (contextAfterAll start (openRecords c)) (0 + length (joinOver encode (openRecords c))) (countOf c) (leaksOf c) (openRecords c) (cut tail .whole) (cut (joinOver encode (openRecords c ++ (q ∷ [])) ++ tail) .left) (a .closing) (each-last (openRecords c) q f)
+    ∙ judge-records (openRecords c) start 0 [] (encode q ∷ cut tail .whole) (cut (joinOver encode (openRecords c ++ (q ∷ [])) ++ tail) .left) (a .accepts) (f .0)
+    ∙ judge-closing (contextAfterAll start (openRecords c)) (0 + length (joinOver encode (openRecords c))) (countOf c) (leaksOf c) (openRecords c) (cut tail .whole) (cut (joinOver encode (openRecords c ++ (q ∷ [])) ++ tail) .left) (a .closing) (f .1 .0)
     ∙ ap₂ closed (sym b) (a .content)
 
 -- ---- a closed study's bytes begin with those of a valid content
@@ -114,7 +92,7 @@ left-open (k ∷ l) place p c j = refused-not 1 place p c (eq-first _ _ _ _ _ j 
 join-decoded : (rs : List Record) (b rest : List ℕ) → Bytes b → WholeBytes b → joinOver encode (rs ++ (decode b ∷ [])) ++ rest ≡ joinOver encode rs ++ (b ++ rest)
 join-decoded rs b rest y w =
     let e : joinOver encode (rs ++ (decode b ∷ [])) ≡ joinOver encode rs ++ b =
-    join-more rs (decode b ∷ []) ∙ ap (λ (x : List ℕ). joinOver encode rs ++ x) (join-one (decode b) ∙ encode-decode b y w) in
+    join-append encode rs (decode b ∷ []) ∙ ap (λ (x : List ℕ). joinOver encode rs ++ x) (join-one encode (decode b) ∙ encode-decode b y w) in
     ap (λ (x : List ℕ). x ++ rest) e ∙ append-assoc (joinOver encode rs) b rest
 
 -- a closing record without fault ends the bytes of a valid content
@@ -170,6 +148,37 @@ verdict-front l p c y v =
     rw j at
     (front-of (cut l .whole) (cut l .left) start 0 [] p c accepts-none refl tt (cut-each l) (bytes-each (cut l .whole) (cut l .left) (rw j y)) v)
 
+-- a study that is closed or refused stays so, whatever follows
+ended-stays : (l more : List ℕ) → (readAll fresh l .core .reading .phase ≡ 0 → ⊥) → readAll fresh (l ++ more) ≡ readAll fresh l
+ended-stays l more h = read-append fresh l more ∙ read-stays (readAll fresh l) more h
+
+-- a phase of 2 is that of a refusal
+phase-refused : (s : State) (total n p : ℕ) (v : Verdict) → Agrees s total v → s .core .reading .phase ≡ 2 → s .core .reading .number ≡ n → s .core .reading .at ≡ p → v ≡ refused n p
+unfolding Agrees
+phase-refused s total n p unclosed a h i j = let k = a .0 in let z : ⊥ = omega arith in absurd z
+phase-refused s total n p (refused m q) a h i j = ap₂ refused (sym (a .1) ∙ i) (sym (a .2) ∙ j)
+phase-refused s total n p (closed q c) a h i j = let k = a .phase in let z : ⊥ = omega arith in absurd z
+
+pub refusal-stays : RefusalStays
+unfolding Agrees
+refusal-stays l more n p y e =
+    let f = fresh-agrees closes l (each-parts (λ (b : ℕ). b < 256) l more y .0) in
+    let a : Agrees (readAll fresh l) (length l) (refused n p) = subst (Agrees (readAll fresh l) (length l)) e f in
+    let h = a .0 in
+    let q = ended-stays l more (λ z. omega arith) in
+    phase-refused (readAll fresh (l ++ more)) (length (l ++ more)) n p (verdict (l ++ more)) (fresh-agrees closes (l ++ more) y) (rw q h) (rw q (a .1)) (rw q (a .2))
+
+pub closing-stays : ClosingStays
+closing-stays l more p c y e =
+    let f = verdict-front l p c (each-parts (λ (b : ℕ). b < 256) l more y .0) e in
+    let b : List ℕ = bytesOf (f .content) in
+    ap (λ (x : List ℕ). verdict (x ++ more)) (f .same)
+    ∙ ap verdict (append-assoc b (f .tail) more)
+    ∙ closed-content (f .content) (f .valid) (f .tail ++ more)
+    ∙ sym (closed-content (f .content) (f .valid) (f .tail))
+    ∙ ap verdict (sym (f .same))
+    ∙ e
+
 -- the bytes of calls
 calls-bytes : (before : List ℕ) (cs : List Call) → Bytes before → Each Callable cs → Bytes (joined before cs)
 unfolding joined
@@ -177,14 +186,9 @@ calls-bytes before [] y z = y
 calls-bytes before (c ∷ cs) y z = calls-bytes (joinedAfter before c) cs (joined-bytes before c y (z .0)) (z .1)
 
 -- a content's bytes are bytes
-join-bytes : (rs : List Record) → Bytes (joinOver encode rs)
-unfolding joinOver
-join-bytes [] = tt
-join-bytes (r ∷ rs) = bytes-join (encode r) (joinOver encode rs) (encode-bytes r) (join-bytes rs)
-
 content-bytes : (c : Content) → Bytes (bytesOf c)
 unfolding bytesOf
-content-bytes c = join-bytes (recordsOf c)
+content-bytes c = each-join (λ (n : ℕ). n < 256) encode (recordsOf c) encode-bytes
 
 -- the state after the bytes of a valid content, whatever follows
 pub content-closed : (c : Content) → Valid c → (tail : List ℕ) → ClosedState (readAll fresh (bytesOf c ++ tail)) (length (bytesOf c)) (length (bytesOf c)) c
@@ -194,8 +198,7 @@ content-closed c v tail =
     let a : ClosedState (readAll fresh (bytesOf c)) (length (bytesOf c)) (length (bytesOf c)) c =
     subst (Agrees (readAll fresh (bytesOf c)) (length (bytesOf c))) e (fresh-agrees closes (bytesOf c) (content-bytes c)) in
     let p = a .phase in
-    let q : readAll fresh (bytesOf c ++ tail) ≡ readAll fresh (bytesOf c) =
-    read-append fresh (bytesOf c) tail ∙ read-stays (readAll fresh (bytesOf c)) tail (λ z. omega arith) in
+    let q = ended-stays (bytesOf c) tail (λ z. omega arith) in
     subst (λ (s : State). ClosedState s (length (bytesOf c)) (length (bytesOf c)) c) (sym q) a
 
 -- a phase of 1 is that of a closed verdict

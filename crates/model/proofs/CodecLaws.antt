@@ -13,6 +13,7 @@ use Rattle.model.specs.Content.{given, described, inSeconds}
 use Rattle.model.specs.Format.{Record, openingRec, targetRec, leakRec, branchingRec, outcomeRec, effectRec, closingRec, bytes, encode}
 use Rattle.model.specs.Calls.{Bytes}
 use Rattle.model.specs.Verdict.{bodyLength, field, decode}
+use Rattle.model.proofs.ListLaws.{each-append}
 use Rattle.model.proofs.Accepts.{Fits, WholeBytes}
 
 -- the powers of 256 are positive
@@ -24,21 +25,21 @@ power-pos n = one-le-pow n 256 (zero-lt-suc 255)
 length-bytes : (n x : ℕ) → length (bytes n x) ≡ n
 unfolding bytes
 length-bytes zero x = refl
-length-bytes (suc n) x = ap suc (length-bytes n x)
+length-bytes (suc n) x = ap suc (length-bytes n _)
 
 bytes-below : (n x : ℕ) → Bytes (bytes n x)
 unfolding bytes
 bytes-below zero x = tt
-bytes-below (suc n) x = (mod-lt (x / 256 ^ n) (zero-lt-suc 255), bytes-below n x)
+bytes-below (suc n) x = (mod-lt _ (zero-lt-suc 255), bytes-below n _)
 
-append-below : (a b : List ℕ) → Bytes a → Bytes b → Bytes (a ++ b)
-append-below [] b p q = q
-append-below (x ∷ a) b p q = (p .0, append-below a b (p .1) q)
+-- and those of one number more
+one-more : (a : List ℕ) (n x : ℕ) → Bytes a → Bytes (a ++ bytes n x)
+one-more a n x p = each-append (λ (b : ℕ). b < 256) a (bytes n x) p (bytes-below n x)
 
 -- the byte at place k, with m bytes after it
 byte-at : (k m x : ℕ) → getD (bytes (suc (k + m)) x) k 0 ≡ x / 256 ^ m % 256
 unfolding bytes
-byte-at zero m x = rw (zero-add m) refl
+byte-at zero m x = ap (λ (n : ℕ). x / 256 ^ n % 256) (zero-add m)
 byte-at (suc k) m x = rw (suc-add k m) (byte-at k m x)
 
 -- the first k of k + m bytes
@@ -208,19 +209,14 @@ unfolding encode
 encode-bytes (openingRec n) = (omega arith, bytes-below 4 n)
 encode-bytes (targetRec n (described f)) = (
   omega arith,
-  append-below (bytes 2 n ++ bytes 1 (f .class) ++ bytes 1 (f .setting)) (bytes 4 (f .volume))
-      (append-below (bytes 2 n ++ bytes 1 (f .class)) (bytes 1 (f .setting))
-      (append-below (bytes 2 n) (bytes 1 (f .class)) (bytes-below 2 n) (bytes-below 1 (f .class))) (bytes-below 1 (f .setting)))
-      (bytes-below 4 (f .volume)),
+  one-more (bytes 2 n ++ bytes 1 (f .class) ++ bytes 1 (f .setting)) 4 (f .volume)
+      (one-more (bytes 2 n ++ bytes 1 (f .class)) 1 (f .setting) (one-more (bytes 2 n) 1 (f .class) (bytes-below 2 n))),
 )
-encode-bytes (leakRec n f) = (omega arith, append-below (bytes 4 n) (bytes 8 f) (bytes-below 4 n) (bytes-below 8 f))
+encode-bytes (leakRec n f) = (omega arith, one-more (bytes 4 n) 8 f (bytes-below 4 n))
 encode-bytes (branchingRec (given p)) = (omega arith, bytes-below 4 p)
-encode-bytes (outcomeRec k n) = (omega arith, append-below (bytes 1 k) (bytes 2 n) (bytes-below 1 k) (bytes-below 2 n))
-encode-bytes (effectRec (inSeconds t i d)) = (
-  omega arith,
-  append-below (bytes 2 t ++ bytes 4 i) (bytes 2 d) (append-below (bytes 2 t) (bytes 4 i) (bytes-below 2 t) (bytes-below 4 i)) (bytes-below 2 d),
-)
-encode-bytes (closingRec n s) = (omega arith, append-below (bytes 4 n) (bytes 8 s) (bytes-below 4 n) (bytes-below 8 s))
+encode-bytes (outcomeRec k n) = (omega arith, one-more (bytes 1 k) 2 n (bytes-below 1 k))
+encode-bytes (effectRec (inSeconds t i d)) = (omega arith, one-more (bytes 2 t ++ bytes 4 i) 2 d (one-more (bytes 2 t) 4 i (bytes-below 2 t)))
+encode-bytes (closingRec n s) = (omega arith, one-more (bytes 4 n) 8 s (bytes-below 4 n))
 
 whole-bytes : (k : ℕ) (b : List ℕ) → (bodyLength k ≡ 0 → ⊥) → length b ≡ bodyLength k → WholeBytes (k ∷ b)
 whole-bytes k b n e = record { kind = k; body = b; same = refl; whole = record { known = n; full = e } }

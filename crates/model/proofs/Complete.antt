@@ -12,11 +12,12 @@ use Rattle.model.specs.Valid.{Each, Valid}
 use Rattle.model.specs.Faults.{Context, context, start, startCounts, counted, ownFault, fault, contextAfter, contextAfterAll}
 use Rattle.model.specs.MachineTheorems.{AllAllowed}
 use Rattle.model.specs.Verdict.{contentOf}
+use Rattle.model.proofs.ListLaws.{each-append}
 use Rattle.model.proofs.SumBounds.{leaks-le}
 use Rattle.model.proofs.Accepts.{Accepts, Fits}
 use Rattle.model.proofs.FaultLaws.{closing-order, closing-free, fault-free}
 use Rattle.model.proofs.ContextLaws.{begun, extended, continued, kindAfter, nextAfterAll, after-append, records-counted, after-scenarios, after-targets}
-use Rattle.model.proofs.AcceptLaws.{AllOwn, accepts-from, own-append, each-append}
+use Rattle.model.proofs.AcceptLaws.{AllOwn, accepts-from, own-append}
 use Rattle.model.proofs.Shape.{numberedFrom, numbered-records, opening-allowed}
 use Rattle.model.proofs.OwnLaws.{scenarios-own, scenarios-fit, targets-own, targets-fit}
 use Rattle.model.proofs.PartsLaws.{content-open}

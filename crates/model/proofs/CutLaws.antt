@@ -1,6 +1,6 @@
 -- Bytes cut into whole records: the whole ones and what is left. Assumes nothing.
 use mathlib.Core.Path.{_≡_, refl, sym, _∙_, ap, ap₂, subst}
-use mathlib.Core.List.{List, [], _∷_, _++_, append-assoc}
+use mathlib.Core.List.{List, [], _∷_, _++_, append-assoc, map}
 use Prim.Native.Nat.{ℕ, zero, suc, _<_, _≤_}
 use native.Mathlib.Nat.{le-refl}
 use native.Mathlib.Decide.{ℕ-discrete, decLe}
@@ -45,14 +45,9 @@ cut-encode r l =
     let w = encode-whole r in
     subst (λ (x : List ℕ). cut (x ++ l) ≡ oneMore x (cut l)) (sym (w .same)) (cut-whole (w .kind) (w .body) l (w .whole))
 
--- the bytes of each record of a list
-abbrev pub encodings : List Record → List (List ℕ)
-encodings [] = []
-encodings (r ∷ rs) = encode r ∷ encodings rs
-
 -- the bytes of records are cut into those of each, and the cut goes on after them
 pub cut-records : (rs : List Record) (l : List ℕ)
-    → (cut (joinOver encode rs ++ l) .whole ≡ encodings rs ++ cut l .whole) × (cut (joinOver encode rs ++ l) .left ≡ cut l .left)
+    → (cut (joinOver encode rs ++ l) .whole ≡ map encode rs ++ cut l .whole) × (cut (joinOver encode rs ++ l) .left ≡ cut l .left)
 unfolding joinOver
 cut-records [] l = (refl, refl)
 cut-records (r ∷ rs) l =

@@ -1,14 +1,11 @@
 -- What it means that a record has no fault, rule by rule and in both directions. Assumes nothing.
 use mathlib.Core.Path.{_≡_, refl, sym}
-use mathlib.Core.Bool.{Bool, true, false}
 use Prim.Native.Nat.{ℕ, _+_, _<_, _≤_}
 use native.Mathlib.Decide.{decLe, ℕ-discrete}
 use native.Mathlib.Omega.{arith}
-use lib.Dec.{eqb, leb, ltb}
-use borrow.Author.Tests.{eqb-true, eqb-false, leb-true, leb-false, ltb-true, ltb-false}
-use Rattle.numeric.specs.Choice.{pick, ifEq, ifLe, ifLt}
+use Rattle.numeric.specs.Choice.{ifEq, ifLe, ifLt}
 use Rattle.numeric.specs.Share.{certain}
-use Rattle.numeric.proofs.ChoiceLaws.{eq-case, ne-case, le-case, gt-case, lt-case, ge-case}
+use Rattle.numeric.proofs.ChoiceLaws.{eq-case, ne-case, le-case, gt-case, lt-case, ge-case, eq-elim, le-elim, lt-elim}
 use Rattle.terms.specs.Terms.{noEffect, fireball, flashFire, people}
 use Rattle.model.specs.Bounds.{mostTargets, mostScenarios, mostRecords, mostAbove, mostVolume, leastFrequency, mostFrequency, mostEffects, mostKind, mostClass, mostSetting}
 use Rattle.model.specs.Content.{Target, facts}
@@ -16,32 +13,6 @@ use Rattle.model.specs.Format.{Record}
 use Rattle.model.specs.Valid.{ValidTarget}
 use Rattle.model.specs.Faults.{Context, orderFault, targetFault, leakFault, branchingFault, outcomeFault, namingFault, effectFault, closingFault, ownFault, fault}
 use Rattle.model.specs.MachineTheorems.{Allowed}
-
--- a choice that is 0, case by case
-module _ {C : Type 0} {m n x y : ℕ} where
-  eq-elim : ifEq m n x y ≡ 0 → (m ≡ n → x ≡ 0 → C) → ((m ≡ n → ⊥) → y ≡ 0 → C) → C
-  unfolding ifEq
-  eq-elim e f g = go (eqb m n) refl e
-    where
-      go : (t : Bool) → eqb m n ≡ t → pick t x y ≡ 0 → C
-      go true q p = f (eqb-true m n q) p
-      go false q p = g (eqb-false m n q) p
-
-  le-elim : ifLe m n x y ≡ 0 → (m ≤ n → x ≡ 0 → C) → (n < m → y ≡ 0 → C) → C
-  unfolding ifLe
-  le-elim e f g = go (leb m n) refl e
-    where
-      go : (t : Bool) → leb m n ≡ t → pick t x y ≡ 0 → C
-      go true q p = f (leb-true m n q) p
-      go false q p = g (leb-false m n q) p
-
-  lt-elim : ifLt m n x y ≡ 0 → (m < n → x ≡ 0 → C) → (n ≤ m → y ≡ 0 → C) → C
-  unfolding ifLt
-  lt-elim e f g = go (ltb m n) refl e
-    where
-      go : (t : Bool) → ltb m n ≡ t → pick t x y ≡ 0 → C
-      go true q p = f (ltb-true m n q) p
-      go false q p = g (ltb-false m n q) p
 
 -- where the order allows a record of kind k
 pub record Order (r l t s k : ℕ) : Type 0 where

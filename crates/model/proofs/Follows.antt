@@ -1,26 +1,21 @@
 -- The machine keeps what the context of the records so far says. Assumes nothing.
 use mathlib.Core.Path.{_≡_, refl, sym, _∙_, ap, ap₂}
 use mathlib.Core.List.{List, [], _∷_, _++_}
-use Prim.Native.Nat.{ℕ, zero, suc, _+_, _-_, _*_, _/_, _%_, _<_, _≤_, min}
-use native.Mathlib.Nat.{le-trans, div-le-of-le-mul}
+use Prim.Native.Nat.{ℕ, zero, suc, _+_, _-_, _*_, _<_, _≤_, min}
 use native.Mathlib.Omega.{arith}
-use native.Mathlib.Numerals.{add-one}
-use lib.ListN.{length, getD, set, drop, length-set, length-append, length-drop}
-use lib.Seq.{getD-set-same, getD-set-other}
-use Rattle.numeric.specs.Choice.{ifEq, ifLe, ifLt}
-use Rattle.numeric.specs.Share.{shareOf, splitOf}
-use Rattle.numeric.proofs.ChoiceLaws.{eq-case, ne-case, le-case, gt-case, lt-case, eq-first, eq-second, le-second, lt-first, lt-second}
-use Rattle.numeric.proofs.ShareLaws.{share-le}
+use lib.ListN.{length, getD, drop, length-append, length-drop}
+use Rattle.numeric.specs.Share.{splitOf}
+use Rattle.numeric.proofs.ChoiceLaws.{eq-case}
 use Rattle.state.specs.declared.Counts.{Counts}
-use Rattle.state.specs.declared.Branch.{Branch}
-use Rattle.state.specs.declared.Core.{Core}
 use Rattle.model.specs.Bounds.{mostTargets, mostScenarios, mostRecords, mostAbove, mostFrequency}
-use Rattle.model.specs.Content.{Branching, chance, Target, facts as factsOf, Effect, targetOf}
+use Rattle.model.specs.Content.{Branching, chance}
 use Rattle.model.specs.Format.{Record, openingRec, targetRec, leakRec, branchingRec, outcomeRec, effectRec, closingRec}
 use Rattle.model.specs.Valid.{Each}
-use Rattle.model.specs.Faults.{Context, context, role, orderFault, targetFault, leakFault, branchingFault, ownFault, fault, counted, declaring, leaking, branched, contextAfter}
-use Rattle.model.specs.Machine.{State, upTo, most16, most32, most64, store, taken, oneRecord, oneTarget, oneLeak, packed, frequencyOf, aboveOf, top, leakStack, branchStack, leakBranch, branchedBranch, outcomeBranch, effectBranch, ownFaultIn, faultIn, effectState, accepted}
-use Rattle.model.proofs.ReadLaws.{Ready, partial}
+use Rattle.model.specs.Faults.{Context, role, ownFault, fault, counted, declaring, leaking, branched, contextAfter}
+use Rattle.model.specs.Machine.{State, most16, most32, most64, taken, oneRecord, oneTarget, oneLeak, frequencyOf, aboveOf, top, leakStack, branchStack, leakBranch, branchedBranch, outcomeBranch, effectBranch, ownFaultIn, faultIn, effectState, accepted}
+use Rattle.model.proofs.ReadLaws.{partial}
+use Rattle.model.proofs.FaultLaws.{order-facts, target-facts, leak-facts, branching-facts, fault-facts}
+use Rattle.model.proofs.StackLaws.{above-packed, frequency-packed, top-at, first-le, second-le, branched-length, branched-first, branched-second, branched-below, leak-length, leak-next}
 
 -- the trees still to come, as packed numbers, the next first
 unfoldable pub pile : List ℕ → ℕ → List ℕ
@@ -41,16 +36,11 @@ unfolding pile
 pile-length l zero = refl
 pile-length l (suc n) = ap suc (pile-length l n)
 
--- a store above the trees changes none of them
-pile-below : (l : List ℕ) (i n v : ℕ) → n ≤ i → pile (set l i v) n ≡ pile l n
+-- stacks with the same trees
+pile-same : (k l : List ℕ) (n : ℕ) → ((i : ℕ) → i < n → getD k i 0 ≡ getD l i 0) → pile k n ≡ pile l n
 unfolding pile
-pile-below l i zero v h = refl
-pile-below l i (suc n) v h = ap₂ (λ (x : ℕ) (k : List ℕ). x ∷ k) (getD-set-other l i n v 0 (omega arith)) (pile-below l i n v (omega arith))
-
--- a store at the height is a tree more
-pile-push : (l : List ℕ) (n v : ℕ) → n < length l → pile (set l n v) (suc n) ≡ v ∷ pile l n
-unfolding pile
-pile-push l n v h = ap₂ (λ (x : ℕ) (k : List ℕ). x ∷ k) (getD-set-same l n v 0 h) (pile-below l n n v (omega arith))
+pile-same k l zero h = refl
+pile-same k l (suc n) h = ap₂ _∷_ (h n (omega arith)) (pile-same k l n (λ i g. h i (omega arith)))
 
 -- each tree's place: no more trees wait below it than there are branchings above it, which are at most 8
 unfoldable pub Placed : List ℕ → Type 0
@@ -90,9 +80,7 @@ placed-few (a ∷ l) p = omega (arith, p .0, p .1)
 top-of : (l : List ℕ) (h : ℕ) → h ≤ 9 → aboveOf (top l h) ≡ getD (aboves (pile l h)) 0 0
 unfolding top pile aboves
 top-of l zero w = ap aboveOf (sym (eq-case _ _ _ _ refl refl))
-top-of l (suc h) w =
-    let e : suc h - 1 ≡ h = omega arith in
-    ap aboveOf (sym (ne-case _ _ _ _ (omega arith) (le-case _ _ _ _ w (rw e refl))))
+top-of l (suc h) w = ap aboveOf (top-at l (suc h) h refl w)
 
 -- the branchings above the next tree
 next-above : (s : State) (x : Context) → Follows s x → aboveOf (top (s .stack) (s .core .branch .height)) ≡ getD (x .trees) 0 0
@@ -120,29 +108,6 @@ same-fault s x r f =
     let o = same-own s x r f in
     cc
 
--- a record without fault: there is room for it, and its own rules hold
-no-fault : (x : Context) (r : Record) → fault x r ≡ 0
-    → (orderFault (x .counts .records) (x .left) (length (x .trees)) (x .counts .scenarios) (role r) ≡ 0) × (x .counts .records < mostRecords) × (ownFault x r ≡ 0)
-unfolding fault
-no-fault x r e =
-    let a = eq-first _ _ _ _ _ e (λ q. omega arith) in
-    let b = le-second _ _ _ _ _ (a .1) (λ q. omega arith) in
-    (a .0, b .0, b .1)
-
--- a branching or an outcome without fault has a tree to be
-order-tree : (records left trees scenarios k : ℕ) → (k ≡ 1 → ⊥) → (k ≡ 6 → ⊥) → (k ≡ 2 → ⊥) → (k ≡ 3 → ⊥) → (k ≡ 7 → ⊥)
-    → orderFault records left trees scenarios k ≡ 0 → 0 < trees
-unfolding orderFault
-order-tree records left trees scenarios k n1 n6 n2 n3 n7 e =
-    let a = eq-second _ _ _ _ _ e (λ q. n1 (eq-first _ _ _ _ _ q (λ z. omega arith) .0)) in
-    let b = lt-second _ _ _ _ _ (a .1) (λ q. n6 (eq-first _ _ _ _ _ q (λ z. omega arith) .0)) in
-    lt-first _ _ _ _ _ (b .1)
-    (λ q.
-    let r : ifEq k 3 0 (ifEq k 7 0 2) ≡ 0 = ne-case k 2 (ifEq scenarios 0 0 2) (ifEq k 3 0 (ifEq k 7 0 2)) n2 refl ∙ q in
-    let t : ifEq k 7 0 2 ≡ 0 = ne-case k 3 0 (ifEq k 7 0 2) n3 refl ∙ r in
-    n7 (eq-first k 7 0 2 0 t (λ z. omega arith) .0))
-    .0
-
 -- ---- each kind of record keeps Follows
 
 -- the counts, where there is room for a record
@@ -166,57 +131,18 @@ one-leak k n f h s g l =
     let q : min (k .leaks + f) most64 ≡ k .leaks + f = omega arith in
     rw (m, o, q) refl
 
--- a packed tree gives back its frequency and the branchings above it
-pub packed-is : (f a : ℕ) → f ≤ mostFrequency → a < 16 → packed f a ≡ f * 16 + a
-unfolding packed
-packed-is f a h k = let m : a % 16 ≡ a = omega arith in rw m (omega arith)
-
-pub packed-above : (f a : ℕ) → f ≤ mostFrequency → a < 16 → aboveOf (packed f a) ≡ a
-packed-above f a h k = rw (packed-is f a h k) (omega arith)
-
-pub packed-frequency : (f a : ℕ) → f ≤ mostFrequency → a < 16 → frequencyOf (packed f a) ≡ f
-packed-frequency f a h k = rw (packed-is f a h k) (omega arith)
-
--- a store within the length
-pub store-set : (n : ℕ) (l : List ℕ) (i v : ℕ) → i < n → store n l i v ≡ set l i v
-unfolding store
-store-set n l i v h = sym (lt-case _ _ _ _ h refl)
-
-pub store-length : (n : ℕ) (l : List ℕ) (i v : ℕ) → i < n → length (store n l i v) ≡ length l
-store-length n l i v h = ap length (store-set n l i v h) ∙ length-set l i v
-
 -- the pile after a leak and after a branching
-pub leak-pile : (l : List ℕ) (f : ℕ) → length l ≡ 9 → pile (leakStack l f) 1 ≡ packed f 0 ∷ []
-unfolding leakStack pile
-leak-pile l f n = ap (λ (u : List ℕ). pile u 1) (store-set 9 l 0 (packed f 0) (omega arith)) ∙ pile-push l 0 (packed f 0) (omega arith)
+pub leak-pile : (l : List ℕ) (f : ℕ) → length l ≡ 9 → f ≤ mostFrequency → pile (leakStack l f) 1 ≡ (f * 16 + 0) ∷ []
+unfolding pile
+leak-pile l f n h = ap (λ (x : ℕ). x ∷ []) (leak-next l f n h)
 
-top-is : (l : List ℕ) (n : ℕ) → suc n ≤ 9 → top l (suc n) ≡ getD l n 0
-unfolding top
-top-is l n h = let e : suc n - 1 ≡ n = omega arith in sym (ne-case _ _ _ _ (omega arith) (le-case _ _ _ _ h (rw e refl)))
-
-pub branch-pile : (l : List ℕ) (n p : ℕ) → length l ≡ 9 → suc n < 9
-    → pile (branchStack l (suc n) p) (suc (suc n))
-    ≡ packed (splitOf (frequencyOf (getD l n 0)) p .first) (aboveOf (getD l n 0) + 1) ∷ packed (splitOf (frequencyOf (getD l n 0)) p .second) (aboveOf (getD l n 0) + 1) ∷ pile l n
-unfolding branchStack
-branch-pile l n p h k =
-    let t = top-is l n (omega arith) in
-    let e : suc n - 1 ≡ n = omega arith in
-    let a : ℕ = aboveOf (getD l n 0) + 1 in
-    let u : ℕ = packed (splitOf (frequencyOf (getD l n 0)) p .second) a in
-    let v : ℕ = packed (splitOf (frequencyOf (getD l n 0)) p .first) a in
-    let q : store 9 l n u ≡ set l n u = store-set 9 l n u (omega arith) in
-    let w : length (set l n u) ≡ length l = length-set l n u in
-    rw (t, e)
-    (ap (λ (m : List ℕ). pile (store 9 m (suc n) v) (suc (suc n))) q
-    ∙ ap (λ (m : List ℕ). pile m (suc (suc n))) (store-set 9 (set l n u) (suc n) v (omega arith))
-    ∙ pile-push (set l n u) (suc n) v (omega arith)
-    ∙ ap (λ (m : List ℕ). v ∷ m) (pile-push l n u (omega arith)))
-
-branch-length : (l : List ℕ) (n p : ℕ) → length l ≡ 9 → suc n < 9 → length (branchStack l (suc n) p) ≡ 9
-unfolding branchStack
-branch-length l n p h k =
-    let e : suc n - 1 ≡ n = omega arith in
-    rw e (store-length 9 _ (suc n) _ k ∙ store-length 9 l n _ (omega arith) ∙ h)
+module _ (l : List ℕ) (n p f a : ℕ) (size : length l ≡ 9) (next : getD l n 0 ≡ f * 16 + a) (low : n ≤ a) (shallow : a ≤ mostAbove) (small : f ≤ mostFrequency) where
+  pub branch-pile : pile (branchStack l (suc n) p) (suc (suc n)) ≡ (splitOf f p .first * 16 + suc a) ∷ (splitOf f p .second * 16 + suc a) ∷ pile l n
+  unfolding pile
+  branch-pile =
+      ap₂ _∷_ (branched-first l (suc n) n f a p refl low shallow next small size)
+      (ap₂ _∷_ (branched-second l (suc n) n f a p refl low shallow next small size)
+      (pile-same (branchStack l (suc n) p) l n (branched-below l (suc n) n f a p refl low shallow next small size)))
 
 -- the pending bytes keep their number
 pending-length : (b p : List ℕ) → length b ≤ 13 → length p ≡ 16 → length (b ++ drop (length b) p) ≡ 16
@@ -250,29 +176,9 @@ unchanged s s' x x' f ph ha pl wi st he tr co le ki ne re ro ta sc lk =
       leaks = rw (sc, lk) (f .leaks);
     }
 
-target-room : (targets n : ℕ) (t : Target) → targetFault targets n (factsOf t) ≡ 0 → targets < mostTargets
-unfolding targetFault
-target-room targets n t e = le-second _ _ _ _ _ e (λ z. omega arith) .0
-
-leak-room : (scenarios last n f : ℕ) → leakFault scenarios last n f ≡ 0 → (scenarios < mostScenarios) × (f ≤ mostFrequency)
-unfolding leakFault
-leak-room scenarios last n f e =
-    let a = le-second _ _ _ _ _ e (λ z. omega arith) in
-    let b = lt-second _ _ _ _ _ (a .1) (λ z. omega arith) in
-    let c = lt-second _ _ _ _ _ (b .1) (λ z. omega arith) in
-    (a .0, c .0)
-
-branching-room : (above p : ℕ) → branchingFault above p ≡ 0 → above ≤ mostAbove
-unfolding branchingFault
-branching-room above p e = lt-second _ _ _ _ _ e (λ z. omega arith) .0
-
-leak-length : (l : List ℕ) (f : ℕ) → length l ≡ 9 → length (leakStack l f) ≡ 9
-unfolding leakStack
-leak-length l f n = store-length 9 l 0 (packed f 0) (omega arith) ∙ n
-
-single-above : (f : ℕ) → f ≤ mostFrequency → aboves (packed f 0 ∷ []) ≡ 0 ∷ []
+single-above : (f : ℕ) → aboves ((f * 16 + 0) ∷ []) ≡ 0 ∷ []
 unfolding aboves
-single-above f h = ap (λ (a : ℕ). a ∷ []) (packed-above f 0 h (omega arith))
+single-above f = ap (λ (a : ℕ). a ∷ []) (above-packed f 0 (omega arith))
 
 zero-placed : Placed (0 ∷ [])
 unfolding Placed
@@ -283,23 +189,23 @@ follows-leak : (s : State) (x : Context) (b : List ℕ) (n f : ℕ) → Follows 
     → Follows (accepted (partial s b) (leakRec n f)) (contextAfter x (leakRec n f))
 unfolding accepted partial taken contextAfter leakBranch ownFault
 follows-leak s x b n f w h e =
-    let z = no-fault x (leakRec n f) e in
-    let r = leak-room _ _ _ _ (z .2) in
-    let g = leak-pile (s .stack) f (w .nine) in
+    let z = fault-facts x (leakRec n f) e in
+    let r = leak-facts _ _ _ _ (z .own) in
+    let g = leak-pile (s .stack) f (w .nine) (r .most) in
     let p = w .place in
     let l = w .leaks in
-    let v = packed-frequency f 0 (r .1) (omega arith) in
+    let v = frequency-packed f 0 (omega arith) in
     record {
       reads = refl;
       none = refl;
       place = omega arith;
       wide = pending-length b (s .pending) h (w .wide);
-      counts = ap (λ (k : Counts). oneLeak k n f) (w .counts) ∙ one-leak (x .counts) n f (z .1) (r .0) (r .1) (w .leaks);
+      counts = ap (λ (k : Counts). oneLeak k n f) (w .counts) ∙ one-leak (x .counts) n f (z .few) (r .few) (r .most) (w .leaks);
       left = w .left;
       kind = w .kind;
       next = w .next;
-      nine = leak-length (s .stack) f (w .nine);
-      trees = ap aboves g ∙ single-above f (r .1);
+      nine = leak-length (s .stack) f ∙ w .nine;
+      trees = ap aboves g ∙ single-above f;
       placed = zero-placed;
       small = rw g (omega arith, tt);
       records = omega arith;
@@ -344,22 +250,17 @@ next-tree s x w h = at (s .core .branch .height) refl
         tree-at s x n e w t (rw e at (w .small)) (rw t (w .placed))
 
 -- both trees of a branching, in the pile
-both-above : (f p a : ℕ) (l : List ℕ) → f ≤ mostFrequency → a ≤ mostAbove
-    → aboves (packed (splitOf f p .first) (a + 1) ∷ packed (splitOf f p .second) (a + 1) ∷ l) ≡ suc a ∷ suc a ∷ aboves l
-unfolding aboves splitOf
-both-above f p a l h k =
-    let q = share-le f p in
-    ap₂ (λ (u v : ℕ). u ∷ v ∷ aboves l)
-    (packed-above (shareOf f p) (a + 1) (omega arith) (omega arith) ∙ add-one a)
-    (packed-above (f - shareOf f p) (a + 1) (omega arith) (omega arith) ∙ add-one a)
+both-above : (f g a : ℕ) (l : List ℕ) → a ≤ mostAbove → aboves ((f * 16 + suc a) ∷ (g * 16 + suc a) ∷ l) ≡ suc a ∷ suc a ∷ aboves l
+unfolding aboves
+both-above f g a l h = ap₂ (λ (u v : ℕ). u ∷ v ∷ aboves l) (above-packed f (suc a) (omega arith)) (above-packed g (suc a) (omega arith))
 
 both-small : (f p a : ℕ) (l : List ℕ) → f ≤ mostFrequency → a ≤ mostAbove → Each (λ e. frequencyOf e ≤ mostFrequency) l
-    → Each (λ e. frequencyOf e ≤ mostFrequency) (packed (splitOf f p .first) (a + 1) ∷ packed (splitOf f p .second) (a + 1) ∷ l)
-unfolding splitOf
+    → Each (λ e. frequencyOf e ≤ mostFrequency) ((splitOf f p .first * 16 + suc a) ∷ (splitOf f p .second * 16 + suc a) ∷ l)
 both-small f p a l h k m =
-    let q = share-le f p in
-    let u = packed-frequency (shareOf f p) (a + 1) (omega arith) (omega arith) in
-    let v = packed-frequency (f - shareOf f p) (a + 1) (omega arith) (omega arith) in
+    let i = first-le f p in
+    let j = second-le f p in
+    let u = frequency-packed (splitOf f p .first) (suc a) (omega arith) in
+    let v = frequency-packed (splitOf f p .second) (suc a) (omega arith) in
     (omega arith, (omega arith, m))
 
 both-placed : (a : ℕ) (l : List ℕ) → a ≤ mostAbove → length l ≤ a → Placed l → Placed (suc a ∷ suc a ∷ l)
@@ -374,14 +275,14 @@ branching-at s x l b w h t z1 z2 =
     let n : ℕ = t .below in
     let a : ℕ = aboveOf (getD (s .stack) n 0) in
     let g : getD (x .trees) 0 0 ≡ a = ap (λ (u : List ℕ). getD u 0 0) (t .trees) in
-    let r : a ≤ mostAbove = rw g at (branching-room _ _ z2) in
+    let f : ℕ = frequencyOf (getD (s .stack) n 0) in
+    let r : a ≤ mostAbove = rw g at (branching-facts _ _ z2 .0) in
     let u = t .under in
     let v : length (aboves (pile (s .stack) n)) ≡ n = aboves-length (pile (s .stack) n) ∙ pile-length (s .stack) n in
-    let k : suc n < 9 = omega arith in
     let m : min (s .core .branch .height + 1) 9 ≡ suc (suc n) = omega (arith, t .height) in
     let q : pile (branchStack (s .stack) (s .core .branch .height) (chance b)) (min (s .core .branch .height + 1) 9)
-    ≡ packed (splitOf (frequencyOf (getD (s .stack) n 0)) (chance b) .first) (a + 1) ∷ packed (splitOf (frequencyOf (getD (s .stack) n 0)) (chance b) .second) (a + 1) ∷ pile (s .stack) n
-    = rw (m, t .height) (branch-pile (s .stack) n (chance b) (w .nine) k) in
+    ≡ (splitOf f (chance b) .first * 16 + suc a) ∷ (splitOf f (chance b) .second * 16 + suc a) ∷ pile (s .stack) n
+    = rw (m, t .height) (branch-pile (s .stack) n (chance b) f a (w .nine) (omega arith) (omega arith) r (t .frequency)) in
     let p = w .place in
     record {
       reads = refl;
@@ -392,10 +293,10 @@ branching-at s x l b w h t z1 z2 =
       left = w .left;
       kind = w .kind;
       next = w .next;
-      nine = rw (t .height) (branch-length (s .stack) n (chance b) (w .nine) k);
-      trees = ap aboves q ∙ both-above (frequencyOf (getD (s .stack) n 0)) (chance b) a (pile (s .stack) n) (t .frequency) r ∙ sym (branched-is (x .trees) a (aboves (pile (s .stack) n)) (t .trees));
+      nine = branched-length (s .stack) (s .core .branch .height) (chance b) ∙ w .nine;
+      trees = ap aboves q ∙ both-above (splitOf f (chance b) .first) (splitOf f (chance b) .second) a (pile (s .stack) n) r ∙ sym (branched-is (x .trees) a (aboves (pile (s .stack) n)) (t .trees));
       placed = rw (branched-is (x .trees) a (aboves (pile (s .stack) n)) (t .trees)) (both-placed a (aboves (pile (s .stack) n)) r (t .under) (t .placed));
-      small = rw q (both-small (frequencyOf (getD (s .stack) n 0)) (chance b) a (pile (s .stack) n) (t .frequency) r (t .small));
+      small = rw q (both-small f (chance b) a (pile (s .stack) n) (t .frequency) r (t .small));
       records = omega (arith, z1);
       targets = w .targets;
       scenarios = w .scenarios;
@@ -408,8 +309,8 @@ branching-at s x l b w h t z1 z2 =
 follows-branching : (s : State) (x : Context) (l : List ℕ) (b : Branching) → Follows s x → length l ≤ 13 → fault x (branchingRec b) ≡ 0
     → Follows (accepted (partial s l) (branchingRec b)) (contextAfter x (branchingRec b))
 follows-branching s x l b w h e =
-    let z = no-fault x (branchingRec b) e in
-    branching-at s x l b w h (next-tree s x w (order-tree _ _ _ _ 4 (λ q. omega arith) (λ q. omega arith) (λ q. omega arith) (λ q. omega arith) (λ q. omega arith) (z .0))) (z .1) (z .2)
+    let z = fault-facts x (branchingRec b) e in
+    branching-at s x l b w h (next-tree s x w (order-facts _ _ _ _ _ (z .order) .branching refl .2)) (z .few) (z .own)
 
 -- an outcome
 outcome-at : (s : State) (x : Context) (l : List ℕ) (o n : ℕ) → Follows s x → length l ≤ 13 → NextTree s x → x .counts .records < mostRecords
@@ -441,27 +342,27 @@ outcome-at s x l o n w h t z1 =
 follows-outcome : (s : State) (x : Context) (l : List ℕ) (o n : ℕ) → Follows s x → length l ≤ 13 → fault x (outcomeRec o n) ≡ 0
     → Follows (accepted (partial s l) (outcomeRec o n)) (contextAfter x (outcomeRec o n))
 follows-outcome s x l o n w h e =
-    let z = no-fault x (outcomeRec o n) e in
-    outcome-at s x l o n w h (next-tree s x w (order-tree _ _ _ _ 5 (λ q. omega arith) (λ q. omega arith) (λ q. omega arith) (λ q. omega arith) (λ q. omega arith) (z .0))) (z .1)
+    let z = fault-facts x (outcomeRec o n) e in
+    outcome-at s x l o n w h (next-tree s x w (order-facts _ _ _ _ _ (z .order) .outcome refl .2)) (z .few)
 
 -- every record without fault but the closing one
 pub follows-record : (s : State) (x : Context) (l : List ℕ) (r : Record) → Follows s x → length l ≤ 13 → fault x r ≡ 0 → (role r ≡ 7 → ⊥)
     → Follows (accepted (partial s l) r) (contextAfter x r)
 unfolding accepted partial taken contextAfter effectState effectBranch ownFault
 follows-record s x l (openingRec n) w h e c =
-    let z = no-fault x (openingRec n) e in
+    let z = fault-facts x (openingRec n) e in
     unchanged s _ x _ w refl refl (omega arith) (pending-length l (s .pending) h (w .wide)) refl refl refl
-    (ap oneRecord (w .counts) ∙ one-record (x .counts) (z .1)) (w .left) (w .kind) (w .next) refl (z .1) (w .targets) refl refl
+    (ap oneRecord (w .counts) ∙ one-record (x .counts) (z .few)) (w .left) (w .kind) (w .next) refl (z .few) (w .targets) refl refl
 follows-record s x l (targetRec n t) w h e c =
-    let z = no-fault x (targetRec n t) e in
-    let r = target-room _ _ t (z .2) in
+    let z = fault-facts x (targetRec n t) e in
+    let r = target-facts _ _ t (z .own) in
     unchanged s _ x _ w refl refl (omega arith) (pending-length l (s .pending) h (w .wide)) refl refl refl
-    (ap oneTarget (w .counts) ∙ one-target (x .counts) (z .1) r) (w .left) (w .kind) (w .next) refl (z .1) (omega arith) refl refl
+    (ap oneTarget (w .counts) ∙ one-target (x .counts) (z .few) (r .few)) (w .left) (w .kind) (w .next) refl (z .few) (omega arith) refl refl
 follows-record s x l (leakRec n f) w h e c = follows-leak s x l n f w h e
 follows-record s x l (branchingRec b) w h e c = follows-branching s x l b w h e
 follows-record s x l (outcomeRec o n) w h e c = follows-outcome s x l o n w h e
 follows-record s x l (effectRec f) w h e c =
-    let z = no-fault x (effectRec f) e in
+    let z = fault-facts x (effectRec f) e in
     unchanged s _ x _ w refl refl (omega arith) (pending-length l (s .pending) h (w .wide)) refl refl refl
-    (ap oneRecord (w .counts) ∙ one-record (x .counts) (z .1)) (ap (λ (u : ℕ). u - 1) (w .left)) (w .kind) refl refl (z .1) (w .targets) refl refl
+    (ap oneRecord (w .counts) ∙ one-record (x .counts) (z .few)) (ap (λ (u : ℕ). u - 1) (w .left)) (w .kind) refl refl (z .few) (w .targets) refl refl
 follows-record s x l (closingRec n t) w h e c = absurd (c refl)

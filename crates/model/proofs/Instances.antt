@@ -20,7 +20,7 @@ use Rattle.model.specs.Format.{bytes, encode, targetRecords, effectRecor
 use Rattle.model.specs.Valid.{ValidTree, Valid}
 use Rattle.model.specs.Outcomes.{treeOutcomes, scenarioOutcomes, outcomesOf}
 use Rattle.model.specs.Report.{judgement, kindTotal, overEffects, unjudgedOf, sumAt, marginAt, exactAt, gradeOf, listedAt, dominoOf}
-use Rattle.model.specs.Instances.{shownOf, Instance, specimen, specimenBytes, specimenShown, SpecimenHolds, stem, deep, deepBytes, deepShown, DeepHolds}
+use Rattle.model.specs.Instances.{shownOf, specimen, SpecimenHolds, stem, deep, DeepHolds}
 
 -- an outcome without effects is valid anywhere
 nothing-valid : (targets above : ℕ) → ValidTree targets above (outcome 0 [])

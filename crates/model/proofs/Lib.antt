@@ -1,6 +1,4 @@
 pub mod ListLaws
-pub mod SumLaws
-pub mod OutcomeFacts
 pub mod OutcomeLaws
 pub mod Totals
 pub mod Weights
@@ -36,4 +34,3 @@ pub mod Closing
 pub mod OrderLaws
 pub mod StateBounds
 pub mod FarBelowLaws
-pub mod FetchLaws

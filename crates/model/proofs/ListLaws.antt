@@ -1,8 +1,8 @@
--- General laws of totals, tests and joins over a list. Assumes nothing.
+-- General laws of properties, totals, tests and joins over a list. Assumes nothing.
 use mathlib.Core.Path.{_≡_, refl, sym, _∙_, ap, subst}
 use mathlib.Core.Bool.{Bool, true, false}
 use mathlib.Core.Logic.{⊎-elim}
-use mathlib.Core.List.{List, [], _∷_, _++_, append-nil, List·Memᴰ, List·Memᴰ·head, List·Memᴰ·tail, List·Memᴰ·cases-cons, List·Memᴰ·not-nil, List·Memᴰ·append-cases, List·Memᴰ·eq-of-singleton, Memᴰ·append-left, Memᴰ·append-right}
+use mathlib.Core.List.{List, [], _∷_, _++_, append-assoc, append-nil, List·Memᴰ, List·Memᴰ·head, List·Memᴰ·tail, List·Memᴰ·cases-cons, List·Memᴰ·not-nil, List·Memᴰ·append-cases, List·Memᴰ·eq-of-singleton, Memᴰ·append-left, Memᴰ·append-right}
 use Prim.Native.Nat.{ℕ, zero, suc, _+_, _*_, _<_, _≤_}
 use native.Mathlib.Nat.{le-of-eq, add-le-add, add-mul, suc-mul, not-suc-le-zero}
 use native.Mathlib.Decide.{ℕ-discrete}
@@ -19,6 +19,15 @@ module _ {A : Type 0} where
   each-at P [] e x m = absurd (List·Memᴰ·not-nil m)
   each-at P (y ∷ l) e x m =
       ⊎-elim (λ q. subst P (sym q) (e .0)) (λ k. each-at P l (e .1) x k) (List·Memᴰ·cases-cons m)
+
+  -- a property of every element of two lists, one after the other
+  pub each-append : (P : A → Type 0) (a b : List A) → Each P a → Each P b → Each P (a ++ b)
+  each-append P [] b h i = i
+  each-append P (x ∷ a) b h i = (h .0, each-append P a b (h .1) i)
+
+  pub each-parts : (P : A → Type 0) (a b : List A) → Each P (a ++ b) → Each P a × Each P b
+  each-parts P [] b h = (tt, h)
+  each-parts P (x ∷ a) b h = let w = each-parts P a b (h .1) in ((h .0, w .0), w .1)
 
   pub sum-append : (f : A → ℕ) (a b : List A) → sumOver f (a ++ b) ≡ sumOver f a + sumOver f b
   unfolding sumOver
@@ -112,6 +121,21 @@ module _ {A : Type 0} where
       rest false ih = ih
 
 module _ {A B : Type 0} where
+  pub join-append : (f : A → List B) (a b : List A) → joinOver f (a ++ b) ≡ joinOver f a ++ joinOver f b
+  unfolding joinOver
+  join-append f [] b = refl
+  join-append f (x ∷ a) b = ap (λ (l : List B). f x ++ l) (join-append f a b) ∙ sym (append-assoc (f x) (joinOver f a) (joinOver f b))
+
+  pub join-one : (f : A → List B) (x : A) → joinOver f (x ∷ []) ≡ f x
+  unfolding joinOver
+  join-one f x = append-nil (f x)
+
+  -- what every joined list has, the join has
+  pub each-join : (P : B → Type 0) (f : A → List B) (l : List A) → ((x : A) → Each P (f x)) → Each P (joinOver f l)
+  unfolding joinOver
+  each-join P f [] h = tt
+  each-join P f (x ∷ l) h = each-append P (f x) (joinOver f l) (h x) (each-join P f l h)
+
   pub length-join : (f : A → List B) (l : List A) → length (joinOver f l) ≡ sumOver (λ x. length (f x)) l
   unfolding joinOver sumOver
   length-join f [] = refl

@@ -1,15 +1,15 @@
 -- The reported sum of a target differs from the exact one by less than its margin, or all three are 0. Assumes nothing.
-use mathlib.Core.Path.{_≡_, refl, _∙_, ap, subst}
+use mathlib.Core.Path.{_≡_, refl, sym, _∙_, ap, subst}
 use mathlib.Core.Logic.{_⊎_, inl, inr, ⊎-elim}
 use mathlib.Core.List.{List, [], _∷_, List·Memᴰ, List·Memᴰ·head, List·Memᴰ·tail, List·Memᴰ·cases-cons, List·Memᴰ·not-nil}
 use Prim.Native.Nat.{ℕ, suc, _+_, _*_, _^_, _<_, _≤_}
 use native.Mathlib.Nat.{one-mul, suc-mul, add-mul, mul-assoc, mul-comm, mul-right-comm, mul-le-mul-left, mul-le-mul-right, mul-lt-mul-of-pos-right, mul-pos, one-le-pow, le-of-mul-le-mul-right}
 use native.Mathlib.Decide.{ℕ-discrete}
 use native.Mathlib.Omega.{arith}
-use borrow.Author.Tests.{eq-eqb, ne-eqb}
 use lib.ListN.{length}
 use Rattle.numeric.specs.Choice.{ifEq}
 use Rattle.numeric.specs.Share.{certain, shareOf}
+use Rattle.numeric.proofs.ChoiceLaws.{eq-case, ne-case}
 use Rattle.numeric.proofs.ShareLaws.{share-plain}
 use Rattle.vulnerability.proofs.Laws.{effect-le}
 use Rattle.model.specs.Bounds.{mostAbove}
@@ -19,7 +19,7 @@ use Rattle.model.specs.Valid.{Valid}
 use Rattle.model.specs.Outcomes.{Outcome, above, outcomesOf, scenarioOutcomes}
 use Rattle.model.specs.Report.{judgement, overEffects, sumAt, marginAt, exactAt}
 use Rattle.model.specs.MeaningTheorems.{SumsWithinMargin}
-use Rattle.model.proofs.SumLaws.{join-member}
+use Rattle.model.proofs.ListLaws.{join-found}
 use Rattle.model.proofs.OutcomeLaws.{Branch, scenario-outcome}
 use Rattle.model.proofs.Weights.{weightAt, partsAt, weight-parts, weight-root, weight-branch}
 
@@ -132,12 +132,12 @@ module _ {A : Type 0} (N : A → Type 0) (D : ℕ) (s x m : A → ℕ) where
 
 -- one effect, which counts if its target is t
 totals-one : (i t D s x m : ℕ) → Inside D s x m → Totals (i ≡ t) D (ifEq i t s 0) (ifEq i t x 0) (ifEq i t m 0)
-unfolding ifEq
 totals-one i t D s x m h = go (ℕ-discrete i t)
   where
     go : Dec (i ≡ t) → Totals (i ≡ t) D (ifEq i t s 0) (ifEq i t x 0) (ifEq i t m 0)
-    go (yes e) = rw (eq-eqb i t e) (inl (e, h))
-    go (no e) = rw (ne-eqb i t e) (inr (record { none = e; sum = refl; exact = refl; margin = refl }))
+    go (yes e) = inl (e, inside-same (sym (eq-case i t s 0 e refl)) (sym (eq-case i t x 0 e refl)) (sym (eq-case i t m 0 e refl)) h)
+    go (no e) =
+        inr (record { none = e; sum = sym (ne-case i t s 0 e refl); exact = sym (ne-case i t x 0 e refl); margin = sym (ne-case i t m 0 e refl) })
 
 -- at the end of a path: its weight, and a frequency at most as many units away as it has branchings
 record Along (leak f w : ℕ) (path : List ℕ) : Type 0 where
@@ -163,9 +163,9 @@ along-root leak = record { weight = weight-root leak; near = near-root (10 ^ 48)
 outcome-near : (c : Content) → Valid c → (o : Outcome) → List·Memᴰ o (outcomesOf c) → Near (10 ^ 48) (o .frequency) (o .weight) (above o)
 unfolding outcomesOf
 outcome-near c v o m =
-    let j = join-member scenarioOutcomes (c .scenarios) o m in
-    let leak : ℕ = j .from .frequency in
-    scenario-outcome (Along leak) (along-branch leak) c v (j .from) (j .among) (along-root leak) o (j .within) .holds .near
+    let j = join-found scenarioOutcomes (c .scenarios) o m in
+    let leak : ℕ = j .0 .frequency in
+    scenario-outcome (Along leak) (along-branch leak) c v (j .0) (j .1) (along-root leak) o (j .2) .holds .near
 
 -- what an effect adds, with the share that the report adds
 chance-inside : (f w d c : ℕ) → c ≤ certain → Near (10 ^ 48) f w d → Inside (10 ^ 54) (shareOf f c) (w * c) (d + 1)

@@ -1,4 +1,4 @@
--- Laws of the outcomes of a valid tree: induction down its branchings, and totals. Assumes nothing.
+-- Laws of the outcomes of a tree: totals, the leak, and induction down the branchings of a valid tree. Assumes nothing.
 use mathlib.Core.Path.{_≡_, sym, _∙_, ap, ap₂, subst}
 use mathlib.Core.Logic.{⊎-elim}
 use mathlib.Core.List.{List, [], _∷_, List·Memᴰ, List·Memᴰ·append-cases, List·Memᴰ·eq-of-singleton}
@@ -10,10 +10,42 @@ use Rattle.numeric.specs.Share.{certain, splitOf}
 use Rattle.numeric.proofs.ShareLaws.{share-plain, share-le}
 use Rattle.model.specs.Bounds.{mostAbove}
 use Rattle.model.specs.Sums.{sumOver}
-use Rattle.model.specs.Content.{chance, Tree, outcome, branching, Scenario, Content}
+use Rattle.model.specs.Content.{Branching, chance, Tree, outcome, branching, Scenario, Content}
 use Rattle.model.specs.Valid.{ValidOutcome, ValidTree, ValidScenario, Valid}
 use Rattle.model.specs.Outcomes.{Outcome, above, firstWeight, secondWeight, treeOutcomes, scenarioOutcomes, outcomesOf}
-use Rattle.model.proofs.SumLaws.{each-at, sum-append, join-member}
+use Rattle.model.proofs.ListLaws.{each-at, sum-append, join-found}
+
+-- the frequencies of the two branches add up to that of the branching
+pub split-total : (f p : ℕ) → splitOf f p .first + splitOf f p .second ≡ f
+unfolding splitOf
+split-total f p = let h = share-le f p in omega arith
+
+-- and so do the weights, where the chance is valid
+pub weight-total : (w p : ℕ) → p ≤ certain → firstWeight w p + secondWeight w p ≡ w
+weight-total w p h = let k : w * p ≤ w * certain = mul-le-mul-left w h in omega arith
+
+-- A figure of frequency and weight that each branching of a tree with Q divides between its branches: its total over the tree is
+-- that of the root.
+module _ (Q : Tree → Type 0) (g : ℕ → ℕ → ℕ)
+    (split : (b : Branching) (l r : Tree) → Q (branching b l r) → Q l × Q r
+    × ((f w : ℕ) → g (splitOf f (chance b) .first) (firstWeight w (chance b)) + g (splitOf f (chance b) .second) (secondWeight w (chance b)) ≡ g f w)) where
+  tree-total : (leak f w : ℕ) (path : List ℕ) (t : Tree) → Q t → sumOver (λ o. g (o .frequency) (o .weight)) (treeOutcomes leak f w path t) ≡ g f w
+  unfolding treeOutcomes sumOver
+  tree-total leak f w path (outcome k es) q = add-zero (g f w)
+  tree-total leak f w path (branching b l r) q =
+      let d = split b l r q in
+      sum-append _ (treeOutcomes _ _ _ _ l) (treeOutcomes _ _ _ _ r)
+      ∙ ap₂ _+_ (tree-total leak _ _ _ l (d .0)) (tree-total leak _ _ _ r (d .1))
+      ∙ d .2 f w
+
+  pub scenario-total : (s : Scenario) → Q (s .tree)
+      → sumOver (λ o. g (o .frequency) (o .weight)) (scenarioOutcomes s) ≡ g (s .frequency) (s .frequency * 10 ^ 48)
+  unfolding scenarioOutcomes
+  scenario-total s q = tree-total (s .frequency) (s .frequency) (s .frequency * 10 ^ 48) [] (s .tree) q
+
+-- the frequencies of a scenario's outcomes add up to its leak
+pub frequencies-add-up : (s : Scenario) → sumOver (λ o. o .frequency) (scenarioOutcomes s) ≡ s .frequency
+frequencies-add-up s = scenario-total (λ t. Unit {0}) (λ f w. f) (λ b l r q. (tt, tt, λ f w. split-total f (chance b))) s tt
 
 -- One branch of a branching of frequency f and weight w: its chance q, its frequency g and its weight v.
 -- It takes q of 1,000,000 parts of the frequency up to a unit, and of a weight that is a multiple of 1,000,000 exactly.
@@ -46,16 +78,16 @@ second-branch f w p h =
     }
 
 -- an outcome has the leak of its tree
-tree-leak : (leak f w : ℕ) (path : List ℕ) (t : Tree) (o : Outcome) → List·Memᴰ o (treeOutcomes leak f w path t) → o .leak ≡ leak
+pub tree-leak : (leak f w : ℕ) (path : List ℕ) (t : Tree) (o : Outcome) → List·Memᴰ o (treeOutcomes leak f w path t) → o .leak ≡ leak
 unfolding treeOutcomes
 tree-leak leak f w path (outcome k es) o m = ap (λ (x : Outcome). x .leak) (List·Memᴰ·eq-of-singleton m)
 tree-leak leak f w path (branching b l r) o m =
     ⊎-elim (tree-leak leak _ _ _ l o) (tree-leak leak _ _ _ r o)
-    (List·Memᴰ·append-cases (treeOutcomes leak (splitOf f (chance b) .first) (firstWeight w (chance b)) (chance b ∷ path) l) m)
+    (List·Memᴰ·append-cases (treeOutcomes _ _ _ _ l) m)
 
-pub outcome-leak : (s : Scenario) (o : Outcome) → List·Memᴰ o (scenarioOutcomes s) → o .leak ≡ s .frequency
+pub scenario-leak : (s : Scenario) (o : Outcome) → List·Memᴰ o (scenarioOutcomes s) → o .leak ≡ s .frequency
 unfolding scenarioOutcomes
-outcome-leak s o m = tree-leak (s .frequency) (s .frequency) (s .frequency * 10 ^ 48) [] (s .tree) o m
+scenario-leak s o m = tree-leak (s .frequency) (s .frequency) (s .frequency * 10 ^ 48) [] (s .tree) o m
 
 -- an outcome of a valid tree: its kind and effects are valid, its path has at most 8 branchings,
 -- and a property holds of its frequency, weight and path
@@ -76,7 +108,7 @@ module _ (P : ℕ → ℕ → List ℕ → Type 0)
       ⊎-elim
       (λ i. tree-outcome targets leak _ _ _ l (v .2) (omega (arith, v .0)) (down f w _ _ _ path (v .0) (first-branch f w (chance b) (v .1)) h) o i)
       (λ i. tree-outcome targets leak _ _ _ r (v .3) (omega (arith, v .0)) (down f w _ _ _ path (v .0) (second-branch f w (chance b) (v .1)) h) o i)
-      (List·Memᴰ·append-cases (treeOutcomes leak (splitOf f (chance b) .first) (firstWeight w (chance b)) (chance b ∷ path) l) m)
+      (List·Memᴰ·append-cases (treeOutcomes _ _ _ _ l) m)
 
   pub scenario-outcome : (c : Content) → Valid c → (s : Scenario) → List·Memᴰ s (c .scenarios) → P (s .frequency) (s .frequency * 10 ^ 48) []
       → (o : Outcome) → List·Memᴰ o (scenarioOutcomes s) → Known (length (c .targets)) P o
@@ -89,31 +121,5 @@ module _ (P : ℕ → ℕ → List ℕ → Type 0)
 pub outcome-known : (c : Content) → Valid c → (o : Outcome) → List·Memᴰ o (outcomesOf c) → Known (length (c .targets)) (λ f w path. Unit {0}) o
 unfolding outcomesOf
 outcome-known c v o m =
-    let j = join-member scenarioOutcomes (c .scenarios) o m in
-    scenario-outcome (λ f w path. Unit {0}) (λ f w q g x path h b u. tt) c v (j .from) (j .among) tt o (j .within)
-
--- a figure of frequency and weight that each branching divides between its branches: its total over a tree is that of the root
-module _ (g : ℕ → ℕ → ℕ)
-    (split : (f w p : ℕ) → p ≤ certain → g (splitOf f p .first) (firstWeight w p) + g (splitOf f p .second) (secondWeight w p) ≡ g f w) where
-  tree-total : (targets leak f w : ℕ) (path : List ℕ) (t : Tree) (n : ℕ) → ValidTree targets n t
-      → sumOver (λ o. g (o .frequency) (o .weight)) (treeOutcomes leak f w path t) ≡ g f w
-  unfolding ValidTree treeOutcomes sumOver
-  tree-total targets leak f w path (outcome k es) n v = add-zero (g f w)
-  tree-total targets leak f w path (branching b l r) n v =
-      sum-append (λ o. g (o .frequency) (o .weight)) (treeOutcomes leak (splitOf f (chance b) .first) (firstWeight w (chance b)) (chance b ∷ path) l)
-      (treeOutcomes leak (splitOf f (chance b) .second) (secondWeight w (chance b)) ((certain - chance b) ∷ path) r)
-      ∙ ap₂ _+_ (tree-total targets leak _ _ _ l (suc n) (v .2)) (tree-total targets leak _ _ _ r (suc n) (v .3))
-      ∙ split f w (chance b) (v .1)
-
-  pub scenario-total : (c : Content) → Valid c → (s : Scenario) → List·Memᴰ s (c .scenarios)
-      → sumOver (λ o. g (o .frequency) (o .weight)) (scenarioOutcomes s) ≡ g (s .frequency) (s .frequency * 10 ^ 48)
-  unfolding scenarioOutcomes
-  scenario-total c v s i =
-      tree-total (length (c .targets)) (s .frequency) (s .frequency) (s .frequency * 10 ^ 48) [] (s .tree) 0
-      (each-at (ValidScenario (length (c .targets))) (c .scenarios) (v .scenarios) s i .tree)
-
--- the frequencies of a scenario's outcomes add up to its leak
-pub frequencies-add-up : (c : Content) → Valid c → (s : Scenario) → List·Memᴰ s (c .scenarios)
-    → sumOver (λ o. o .frequency) (scenarioOutcomes s) ≡ s .frequency
-unfolding splitOf
-frequencies-add-up = scenario-total (λ f w. f) (λ f w p h. let k = share-le f p in omega arith)
+    let j = join-found scenarioOutcomes (c .scenarios) o m in
+    scenario-outcome (λ f w path. Unit {0}) (λ f w q g x path h b u. tt) c v (j .0) (j .1) tt o (j .2)

@@ -17,7 +17,8 @@ use Rattle.model.specs.MachineTheorems.{Numbered}
 use Rattle.model.proofs.Accepts.{Fits}
 use Rattle.model.proofs.FaultLaws.{target-facts, target-free, LeakTaken, leak-facts, leak-free, branching-facts, branching-free, outcome-facts, outcome-free, effect-facts, effect-free}
 use Rattle.model.proofs.ContextLaws.{advanced, kindAtEnd, nextAtEnd, numberedRecord, after-tree}
-use Rattle.model.proofs.AcceptLaws.{AllOwn, own-append, own-parts, each-append, each-parts}
+use Rattle.model.proofs.ListLaws.{each-append, each-parts}
+use Rattle.model.proofs.AcceptLaws.{AllOwn, own-append, own-parts}
 
 pub effects-own : (es : List Effect) (k : Counts) (trees : List ℕ) (left kind next : ℕ) → Each (ValidEffect kind (k .targets)) es → RiseFrom targetOf next es
     → AllOwn (context k trees left kind next) (effectRecords es)

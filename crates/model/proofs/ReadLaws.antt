@@ -1,15 +1,15 @@
 -- A record read byte by byte is the record read at once. Assumes nothing.
 use mathlib.Core.Path.{_≡_, refl, sym, _∙_, ap}
 use mathlib.Core.List.{List, [], _∷_, _++_, append-assoc, append-nil}
-use Prim.Native.Nat.{ℕ, zero, suc, _+_, _-_, _<_, _≤_, min}
+use Prim.Native.Nat.{ℕ, suc, _+_, _-_, _<_, _≤_, min}
 use native.Mathlib.Omega.{arith}
 use native.Mathlib.Numerals.{add-one}
-use lib.ListN.{length, getD, set, drop, length-append, length-drop}
+use lib.ListN.{length, getD, set, drop, length-append}
 use lib.Seq.{drop-cons, set-at}
 use Rattle.numeric.proofs.ChoiceLaws.{eq-case, ne-case, le-case, gt-case, lt-case}
 use Rattle.state.specs.declared.Reading.{Reading}
 use Rattle.model.specs.Verdict.{bodyLength, decode}
-use Rattle.model.specs.Machine.{State, state, upTo, most64, store, reading, begun, grown, core, recordRead, ended, body, step, readAll}
+use Rattle.model.specs.Machine.{State, state, most64, store, reading, begun, grown, core, recordRead, ended, body, step, readAll}
 
 -- bytes of two lists, one after the other
 pub read-append : (s : State) (a b : List ℕ) → readAll s (a ++ b) ≡ readAll (readAll s a) b
@@ -75,11 +75,6 @@ read-more s l b r h k =
     let e : _≡_ {A = Reading} (reading 0 (length (l ++ (b ∷ []))) (s .core .reading .place + length (l ++ (b ∷ []))) (s .core .reading .place) 0 0)
     (reading 0 (min (length l + 1) 15) (min (s .core .reading .place + length l + 1) most64) (s .core .reading .place) 0 0) = rw (n, m, q) refl in
     sym (eq-case _ _ _ _ refl (ne-case _ _ _ _ (omega arith) (cc)))
-
--- the kind of a record that has begun
-kind-partial : (s : State) (k : ℕ) (b : List ℕ) → getD (partial s (k ∷ b) .pending) 0 0 ≡ k
-unfolding partial
-kind-partial s k b = refl
 
 -- a record that is not yet whole, and one that is
 ended-not : (s : State) (k : ℕ) (b : List ℕ) → length b < bodyLength k → ended (partial s (k ∷ b)) ≡ partial s (k ∷ b)

@@ -7,7 +7,7 @@ use native.Mathlib.Decide.{ℕ-discrete}
 use native.Mathlib.Omega.{arith}
 use lib.ListN.{length, getD}
 use Rattle.numeric.specs.Choice.{pick, ifEq}
-use Rattle.numeric.proofs.ChoiceLaws.{eq-case, ne-case, eq-both}
+use Rattle.numeric.proofs.ChoiceLaws.{eq-case, ne-case, pick-both, eq-both}
 use Rattle.terms.specs.Terms.{people}
 use Rattle.terms.specs.declared.Target.{Target as Facts}
 use Rattle.vulnerability.specs.Domino.{listedBy}
@@ -76,11 +76,6 @@ marked-same x =
     let b : y / 8 ≡ x / 8 = omega arith in
     let c : y / 64 ≡ x / 64 = omega arith in
     λ i. record { class = b i % 8; setting = a i % 4; volume = c i % 4294967296 }
-
--- both sides of a test of a Boolean
-pick-both : {A : Type 0} (P : A → Type 0) (b : Bool) (x y : A) → P x → P y → P (pick b x y)
-pick-both P true x y p q = p
-pick-both P false x y p q = q
 
 pub marked-facts : (x c leak : ℕ) → unpackedFacts (markedFacts x c leak) ≡ unpackedFacts x
 unfolding markedFacts

@@ -1,14 +1,13 @@
 -- What the machine has added up after the records of a valid content is what the meaning says. Assumes nothing.
 use mathlib.Core.Path.{_≡_, refl, sym, _∙_, ap, subst}
-use mathlib.Core.Bool.{Bool, true, false}
 use mathlib.Core.List.{List, [], _∷_, _++_, append-nil, append-assoc}
 use Prim.Native.Nat.{ℕ, zero, suc, _+_, _-_, _*_, _^_, _<_, _≤_, min}
 use native.Mathlib.Nat.{zero-add, le-trans, add-zero, add-assoc, not-suc-le-zero}
 use native.Mathlib.Omega.{arith}
 use lib.ListN.{length, getD, replicate, length-append, length-replicate}
 use lib.Seq.{getD-at}
-use Rattle.numeric.specs.Choice.{pick}
 use Rattle.numeric.specs.Share.{certain, splitOf}
+use Rattle.numeric.proofs.ChoiceLaws.{pick-both}
 use Rattle.model.specs.Bounds.{mostScenarios, mostAbove, mostFrequency}
 use Rattle.model.specs.Sums.{sumOver, joinOver}
 use Rattle.model.specs.Content.{Branching, chance, Target, facts as factsOf, Effect, targetOf, Tree, outcome, branching, Scenario, Content}
@@ -17,13 +16,11 @@ use Rattle.model.specs.Valid.{Each, ValidTarget, ValidEffect, ValidTree,
 use Rattle.model.specs.Outcomes.{Outcome, firstWeight, secondWeight, treeOutcomes, scenarioOutcomes, outcomesOf}
 use Rattle.model.specs.Report.{targetAt, judgement, overEffects, kindTotal, unjudgedOf, sumAt, marginAt, listedAt}
 use Rattle.model.specs.Machine.{fetch, most32, most64, accepted, effectState, rowAfter, oneRecord, oneTarget, oneLeak, unpackedFacts, markOf, studyTally, frequencyOf, top, outcomeBranch, fresh}
-use Rattle.model.proofs.ListLaws.{sum-le, sum-most}
 use Rattle.model.proofs.Totals.{kinds-add-up}
-use Rattle.model.proofs.SumBounds.{sum-le-leaks, leaks-le, effectCount, effects-le, margin-le}
-use Rattle.model.proofs.FetchLaws.{fetched}
+use Rattle.model.proofs.SumBounds.{sum-le-leaks, leaks-le, effects-le, over-most, margin-le}
+use Rattle.model.proofs.StackLaws.{fetched}
 use Rattle.model.proofs.RunData.{Data, dataOf, after, run, run-append, run-records}
-use Rattle.model.proofs.StackLaws.{first-le, second-le}
-use Rattle.model.proofs.StackRuns.{Ready, AtHand, run-size, leak-ready, outcome-at-hand, first-ready, second-ready, effect-at-hand, tree-taken}
+use Rattle.model.proofs.StackRuns.{Ready, AtHand, run-size, leak-ready, outcome-at-hand, effect-at-hand, branches}
 use Rattle.model.proofs.PartFigures.{unjudgedBy, upToNow}
 use Rattle.model.proofs.RowSteps.{TallyIs, RowsAre, target-rows, outcome-tally, outcome-rows, effect-tally, effect-rows}
 
@@ -98,18 +95,15 @@ module _ (c : Content) (n sum : ℕ) where
       let a : ℕ = length path in
       let d₀ : Data = after d (branchingRec b) in
       let d₁ : Data = run d₀ (treeRecords l) in
-      let i = first-le f p in
-      let j = second-le f p in
       let g : a ≤ mostAbove = v .0 in
-      let ready = first-ready d h leak f a r low b g small in
-      let taken = tree-taken l d₀ (suc h) leak (splitOf f p .first) (suc a) n (v .2) (omega arith) (omega arith) (omega arith) ready in
+      let t = branches b l m d h leak f a n v low small r in
       let one =
-      tree-run l os d₀ (suc h) leak (splitOf f p .first) (firstWeight w p) (p ∷ path) few (v .2) (omega arith) (omega arith) (omega arith) ready
+      tree-run l os d₀ (suc h) leak (splitOf f p .first) (firstWeight w p) (p ∷ path) few (v .2) (omega arith) (omega arith) (t .firstSmall) (t .first)
       (branching-step b os d s) in
       rw (run-append d₀ (treeRecords l) (treeRecords m))
       (subst (λ (x : List Outcome). Holds c n sum x (run d₁ (treeRecords m))) (append-assoc os (treeOutcomes leak (splitOf f p .first) (firstWeight w p) (p ∷ path) l) _)
-      (tree-run m _ d₁ h leak (splitOf f p .second) (secondWeight w p) ((certain - p) ∷ path) few (v .3) (omega arith) (omega arith) (omega arith)
-      (second-ready d h leak f a r low b g small d₁ taken) one))
+      (tree-run m _ d₁ h leak (splitOf f p .second) (secondWeight w p) ((certain - p) ∷ path) few (v .3) (omega arith) (omega arith) (t .secondSmall)
+      (t .second) one))
 
 -- a leak
 leak-step : (c : Content) (n sum k f : ℕ) (os : List Outcome) (d : Data) → Holds c n sum os d → Holds c n (sum + f) os (after d (leakRec k f))
@@ -203,17 +197,12 @@ content-run c v =
     (targets-run c (c .targets) [] 0 (after (dataOf fresh) (openingRec (c .number))) refl refl (v .fewTargets) (v .targets) (opened c))))
 
 -- there are at most as many unjudged effects as records
-effect-unjudged : (b : Bool) → pick b 0 1 ≤ 1
-effect-unjudged true = omega arith
-effect-unjudged false = omega arith
-
 pub unjudged-le : (c : Content) → unjudgedOf c ≤ countOf c
-unfolding unjudgedOf overEffects
+unfolding unjudgedOf
 unjudged-le c =
-    let h = sum-le (λ o. sumOver (unjudgedBy c o) (o .effects)) effectCount (outcomesOf c)
-    (λ o m. le-trans (sum-most (unjudgedBy c o) 1 (o .effects) (λ e k. effect-unjudged (judgement c o e .judged))) (omega arith)) in
-    let k = effects-le c in
-    omega arith
+    le-trans
+    (over-most (unjudgedBy c) 1 (outcomesOf c) (λ o m e. pick-both (λ (n : ℕ). n ≤ 1) (judgement c o e .judged) 0 1 (omega arith) (omega arith)))
+    (let k = effects-le c in omega arith)
 
 -- the figures of a target are those of the meaning
 pub record RowIs (c : Content) (d : Data) (t : ℕ) : Type 0 where

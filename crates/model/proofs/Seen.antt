@@ -16,8 +16,7 @@ use Rattle.model.specs.Outcomes.{firstWeight, secondWeight, treeOutcomes
 use Rattle.model.specs.Machine.{State, accepted, fresh}
 use Rattle.model.specs.MachineTheorems.{Seen, seenAt, seenIn, seenOf, OutcomesAreTheMeanings}
 use Rattle.model.proofs.RunData.{Data, dataOf, after, run, data-accepted}
-use Rattle.model.proofs.StackLaws.{first-le, second-le}
-use Rattle.model.proofs.StackRuns.{Ready, AtHand, run-size, leak-ready, outcome-at-hand, first-ready, second-ready, tree-taken}
+use Rattle.model.proofs.StackRuns.{Ready, AtHand, run-size, leak-ready, outcome-at-hand, branches}
 use Rattle.model.proofs.Runs.{opened-size}
 
 -- the same over the data alone
@@ -71,16 +70,12 @@ tree-seen (branching b l m) d h leak f w path targets v low shallow small r =
     let a : ℕ = length path in
     let d₀ : Data = after d (branchingRec b) in
     let d₁ : Data = run d₀ (treeRecords l) in
-    let i = first-le f p in
-    let j = second-le f p in
     let g : a ≤ mostAbove = v .0 in
-    let ready = first-ready d h leak f a r low b g small in
-    let taken = tree-taken l d₀ (suc h) leak (splitOf f p .first) (suc a) targets (v .2) (omega arith) (omega arith) (omega arith) ready in
+    let t = branches b l m d h leak f a targets v low small r in
     seen-append d₀ (treeRecords l) (treeRecords m)
     ∙ ap₂ _++_
-    (tree-seen l d₀ (suc h) leak (splitOf f p .first) (firstWeight w p) (p ∷ path) targets (v .2) (omega arith) (omega arith) (omega arith) ready)
-    (tree-seen m d₁ h leak (splitOf f p .second) (secondWeight w p) ((certain - p) ∷ path) targets (v .3) (omega arith) (omega arith) (omega arith)
-    (second-ready d h leak f a r low b g small d₁ taken))
+    (tree-seen l d₀ (suc h) leak (splitOf f p .first) (firstWeight w p) (p ∷ path) targets (v .2) (omega arith) (omega arith) (t .firstSmall) (t .first))
+    (tree-seen m d₁ h leak (splitOf f p .second) (secondWeight w p) ((certain - p) ∷ path) targets (v .3) (omega arith) (omega arith) (t .secondSmall) (t .second))
     ∙ sym (map-append seenOf (treeOutcomes leak (splitOf f p .first) (firstWeight w p) (p ∷ path) l) _)
 
 scenario-seen : (x : Scenario) (d : Data) (targets : ℕ) → ValidScenario targets x → length (d .stack) ≡ 9

@@ -14,7 +14,8 @@ use Rattle.model.specs.Verdict.{contentOf}
 use Rattle.model.proofs.Accepts.{Accepts, Fits}
 use Rattle.model.proofs.FaultLaws.{closing-facts, fault-facts}
 use Rattle.model.proofs.ContextLaws.{begun, extended, numberedRecord, after-targets}
-use Rattle.model.proofs.AcceptLaws.{AllOwn, accepts-order, accepts-own, own-parts, each-parts}
+use Rattle.model.proofs.ListLaws.{each-parts}
+use Rattle.model.proofs.AcceptLaws.{AllOwn, accepts-order, accepts-own, own-parts}
 use Rattle.model.proofs.Shape.{Opened, opened}
 use Rattle.model.proofs.OwnLaws.{bare, numbered-places, targets-valid, scenarios-valid}
 use Rattle.model.proofs.PartsLaws.{content-open}

@@ -8,28 +8,39 @@ use lib.Seq.{getD-set-same, getD-set-other}
 use Rattle.numeric.specs.Share.{splitOf}
 use Rattle.numeric.proofs.ChoiceLaws.{ne-case, le-case, lt-case, lt-both}
 use Rattle.model.specs.Bounds.{mostAbove, mostFrequency}
-use Rattle.model.specs.Machine.{store, packed, frequencyOf, aboveOf, top, leakStack, branchStack}
-use Rattle.model.proofs.Totals.{split-total}
+use Rattle.model.specs.Machine.{store, fetch, packed, frequencyOf, aboveOf, top, leakStack, branchStack}
+use Rattle.model.proofs.OutcomeLaws.{split-total}
 
 -- a store below the length
+pub store-set : (n : ℕ) (l : List ℕ) (i v : ℕ) → i < n → store n l i v ≡ set l i v
+unfolding store
+store-set n l i v h = sym (lt-case i n (set l i v) l h refl)
+
 pub stored-length : (n : ℕ) (l : List ℕ) (i v : ℕ) → length (store n l i v) ≡ length l
 unfolding store
 stored-length n l i v = lt-both (λ (x : List ℕ). length x ≡ length l) i n (set l i v) l (length-set l i v) refl
 
 pub stored-here : (n : ℕ) (l : List ℕ) (i v : ℕ) → length l ≡ n → i < n → getD (store n l i v) i 0 ≡ v
-unfolding store
 stored-here n l i v e h =
     let k : i < length l = omega arith in
-    ap (λ (x : List ℕ). getD x i 0) (sym (lt-case i n (set l i v) l h refl)) ∙ getD-set-same l i v 0 k
+    ap (λ (x : List ℕ). getD x i 0) (store-set n l i v h) ∙ getD-set-same l i v 0 k
 
 pub stored-other : (n : ℕ) (l : List ℕ) (i j v : ℕ) → (j ≡ i → ⊥) → getD (store n l i v) j 0 ≡ getD l j 0
 unfolding store
 stored-other n l i j v h = lt-both (λ (x : List ℕ). getD x j 0 ≡ getD l j 0) i n (set l i v) l (getD-set-other l i j v 0 h) refl
 
+-- what is fetched below the length is what stands there
+pub fetched : (n : ℕ) (l : List ℕ) (i : ℕ) → i < n → fetch n l i ≡ getD l i 0
+unfolding fetch
+fetched n l i h = sym (lt-case i n (getD l i 0) 0 h refl)
+
 -- a tree of a valid content is packed whole, and comes out as it went in
-pub packed-whole : (f a : ℕ) → f ≤ mostFrequency → a ≤ suc mostAbove → packed f a ≡ f * 16 + a
+pub packed-is : (f a : ℕ) → f ≤ mostFrequency → a < 16 → packed f a ≡ f * 16 + a
 unfolding packed
-packed-whole f a h k = omega arith
+packed-is f a h k = omega arith
+
+pub packed-whole : (f a : ℕ) → f ≤ mostFrequency → a ≤ suc mostAbove → packed f a ≡ f * 16 + a
+packed-whole f a h k = packed-is f a h (omega arith)
 
 pub frequency-packed : (f a : ℕ) → a ≤ suc mostAbove → frequencyOf (f * 16 + a) ≡ f
 frequency-packed f a h = omega arith

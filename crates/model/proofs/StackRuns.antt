@@ -157,3 +157,25 @@ tree-taken (branching b l s) d h leak f a targets v low shallow small r =
     tree-taken s d₁ h leak (splitOf f (chance b) .second) (suc a) targets (v .3) (omega arith) (omega arith) (omega arith)
     (second-ready d h leak f a r low b j small d₁ t) in
     rw (run-append d₀ (treeRecords l) (treeRecords s)) (both-taken d h leak f a r low b j small d₁ _ t u)
+
+-- the next tree is a branching: each of its branches is the next tree when it is due
+pub record Branches (b : Branching) (l : Tree) (d : Data) (h leak f a : ℕ) : Type 0 where
+  pub first : Ready (after d (branchingRec b)) (suc h) leak (splitOf f (chance b) .first) (suc a)
+  pub firstSmall : splitOf f (chance b) .first ≤ mostFrequency
+  pub second : Ready (run (after d (branchingRec b)) (treeRecords l)) h leak (splitOf f (chance b) .second) (suc a)
+  pub secondSmall : splitOf f (chance b) .second ≤ mostFrequency
+
+pub branches : (b : Branching) (l m : Tree) (d : Data) (h leak f a targets : ℕ) → ValidTree targets a (branching b l m) → h ≤ a → f ≤ mostFrequency → Ready d h leak f a
+    → Branches b l d h leak f a
+unfolding ValidTree
+branches b l m d h leak f a targets v low small r =
+    let i = first-le f (chance b) in
+    let j = second-le f (chance b) in
+    let g : a ≤ mostAbove = v .0 in
+    let ready = first-ready d h leak f a r low b g small in
+    record {
+      first = ready;
+      firstSmall = omega arith;
+      second = second-ready d h leak f a r low b g small _ (tree-taken l (after d (branchingRec b)) (suc h) leak _ (suc a) targets (v .2) (omega arith) (omega arith) (omega arith) ready);
+      secondSmall = omega arith;
+    }

@@ -17,12 +17,13 @@ use Rattle.model.specs.Sums.{sumOver}
 use Rattle.model.specs.Content.{Branching, chance, Effect, targetOf}
 use Rattle.model.specs.Format.{Record, openingRec, targetRec, leakRec, branchingRec, outcomeRec, effectRec, closingRec}
 use Rattle.model.specs.Faults.{Context, start, role, ownFault, fault, contextAfter}
-use Rattle.model.specs.Machine.{State, upTo, most32, most64, store, taken, frequencyOf, aboveOf, packed, top, leakStack, branchStack, leakBranch, branchedBranch, outcomeBranch, effectBranch, studyTally, kindGrown, outcomeTally, effectTally, rowAfter, effectState, accepted, fresh}
-use Rattle.model.proofs.Totals.{split-total, one-kind}
-use Rattle.model.proofs.StackLaws.{stored-length, stored-here, stored-other, top-at}
+use Rattle.model.specs.Machine.{State, upTo, most32, most64, store, taken, frequencyOf, aboveOf, top, leakStack, branchStack, leakBranch, branchedBranch, outcomeBranch, effectBranch, studyTally, kindGrown, outcomeTally, effectTally, rowAfter, effectState, accepted, fresh}
+use Rattle.model.proofs.OutcomeLaws.{split-total}
+use Rattle.model.proofs.Totals.{one-kind}
+use Rattle.model.proofs.StackLaws.{stored-length, stored-here, stored-other, frequency-packed, top-at}
 use Rattle.model.proofs.FaultLaws.{fault-facts, order-facts, leak-facts, branching-facts, outcome-facts, effect-facts}
 use Rattle.model.proofs.ReadLaws.{partial}
-use Rattle.model.proofs.Follows.{pile, Follows, aboves, aboves-length, pile-length, height-is, placed-few, next-tree, packed-frequency, leak-pile, branch-pile}
+use Rattle.model.proofs.Follows.{pile, Follows, aboves, aboves-length, pile-length, height-is, placed-few, next-tree, leak-pile, branch-pile}
 
 -- the frequencies of the trees still to come, in all
 abbrev pub waiting : State → ℕ
@@ -48,22 +49,18 @@ pub record Bounded (s : State) (x : Context) : Type 0 where
 -- the trees still to come after a leak and after a branching
 leak-waiting : (l : List ℕ) (f : ℕ) → length l ≡ 9 → f ≤ mostFrequency → sumOver frequencyOf (pile (leakStack l f) 1) ≡ f
 unfolding sumOver
-leak-waiting l f n h = let e = packed-frequency f 0 h (omega arith) in ap (sumOver frequencyOf) (leak-pile l f n) ∙ (omega arith)
+leak-waiting l f n h = let e = frequency-packed f 0 (omega arith) in ap (sumOver frequencyOf) (leak-pile l f n h) ∙ (omega arith)
 
-split-waiting : (f p a w : ℕ) → f ≤ mostFrequency → a ≤ mostAbove
-    → frequencyOf (packed (splitOf f p .first) (a + 1)) + (frequencyOf (packed (splitOf f p .second) (a + 1)) + w) ≡ f + w
-split-waiting f p a w h k =
-    let t = split-total f p in
-    let u = packed-frequency (splitOf f p .first) (a + 1) (omega arith) (omega arith) in
-    let v = packed-frequency (splitOf f p .second) (a + 1) (omega arith) (omega arith) in
-    omega arith
-
-branch-waiting : (l : List ℕ) (n p : ℕ) → length l ≡ 9 → suc n < 9 → frequencyOf (getD l n 0) ≤ mostFrequency → aboveOf (getD l n 0) ≤ mostAbove
+branch-waiting : (l : List ℕ) (n p : ℕ) → length l ≡ 9 → n ≤ aboveOf (getD l n 0) → aboveOf (getD l n 0) ≤ mostAbove → frequencyOf (getD l n 0) ≤ mostFrequency
     → sumOver frequencyOf (pile (branchStack l (suc n) p) (suc (suc n))) ≡ frequencyOf (getD l n 0) + sumOver frequencyOf (pile l n)
 unfolding sumOver
-branch-waiting l n p e h k a =
-    ap (sumOver frequencyOf) (branch-pile l n p e h)
-    ∙ split-waiting (frequencyOf (getD l n 0)) p (aboveOf (getD l n 0)) (sumOver frequencyOf (pile l n)) k a
+branch-waiting l n p size low shallow small =
+    let f : ℕ = frequencyOf (getD l n 0) in
+    let a : ℕ = aboveOf (getD l n 0) in
+    let t = split-total f p in
+    let u = frequency-packed (splitOf f p .first) (suc a) (omega arith) in
+    let v = frequency-packed (splitOf f p .second) (suc a) (omega arith) in
+    ap (sumOver frequencyOf) (branch-pile l n p f a size (omega arith) low shallow small) ∙ (omega arith)
 
 -- the next tree is one of those still to come
 next-waiting : (s : State) (n : ℕ) → s .core .branch .height ≡ suc n → waiting s ≡ frequencyOf (getD (s .stack) n 0) + sumOver frequencyOf (pile (s .stack) n)
@@ -153,18 +150,18 @@ bounded-branching s x l b w k h e =
     let d = next-tree s x w (o .2) in
     let a : aboveOf (getD (s .stack) (d .below) 0) ≤ mostAbove = rw (ap (λ (u : List ℕ). getD u 0 0) (d .trees)) at (branching-facts _ _ (z .own) .0) in
     let v = next-waiting s (d .below) (d .height) in
-    let q = branched (d .below) (d .height) (d .frequency) a (omega (arith, d .under, under (d .below))) in
+    let q = branched (d .below) (d .height) (omega (arith, d .under, under (d .below))) a (d .frequency) in
     same-figures s _ x _ k refl refl refl refl refl refl refl refl (λ r. omega arith) (omega arith) (omega arith)
   where
     under : (n : ℕ) → length (aboves (pile (s .stack) n)) ≡ n
     under n = aboves-length (pile (s .stack) n) ∙ pile-length (s .stack) n
 
-    branched : (n : ℕ) → s .core .branch .height ≡ suc n → frequencyOf (getD (s .stack) n 0) ≤ mostFrequency → aboveOf (getD (s .stack) n 0) ≤ mostAbove → suc n < 9
+    branched : (n : ℕ) → s .core .branch .height ≡ suc n → n ≤ aboveOf (getD (s .stack) n 0) → aboveOf (getD (s .stack) n 0) ≤ mostAbove → frequencyOf (getD (s .stack) n 0) ≤ mostFrequency
         → sumOver frequencyOf (pile (branchStack (s .stack) (s .core .branch .height) (chance b)) (upTo 9 (s .core .branch .height) 1))
         ≡ frequencyOf (getD (s .stack) n 0) + sumOver frequencyOf (pile (s .stack) n)
-    branched n g f a h =
+    branched n g low shallow small =
         let m : min (s .core .branch .height + 1) 9 ≡ suc (suc n) = omega arith in
-        rw (m, g) (branch-waiting (s .stack) n (chance b) (w .nine) h f a)
+        rw (m, g) (branch-waiting (s .stack) n (chance b) (w .nine) low shallow small)
 
 bounded-outcome : (s : State) (x : Context) (l : List ℕ) (o n : ℕ) → Follows s x → Bounded s x → length l ≤ 13 → fault x (outcomeRec o n) ≡ 0
     → Bounded (accepted (partial s l) (outcomeRec o n)) (contextAfter x (outcomeRec o n))

@@ -1,7 +1,7 @@
 -- The bounds of a target's sum, of the leaks and of a margin. Assumes nothing.
 use mathlib.Core.Path.{_≡_, refl, ap}
 use mathlib.Core.List.{List, [], _∷_, List·Memᴰ}
-use Prim.Native.Nat.{ℕ, suc, _+_, _*_, _^_, _≤_}
+use Prim.Native.Nat.{ℕ, suc, _*_, _^_, _≤_}
 use native.Mathlib.Nat.{le-step, add-le-add, le-trans, le-of-eq, mul-le-mul-right}
 use native.Mathlib.Omega.{arith}
 use lib.ListN.{length, length-append}
@@ -13,11 +13,11 @@ use Rattle.model.specs.Sums.{sumOver, joinOver}
 use Rattle.model.specs.Content.{Effect, targetOf, Tree, outcome, branching, Scenario, Content}
 use Rattle.model.specs.Format.{targetRecords, effectRecords, treeRecords, scenarioRecords, leaksOf, openRecords, countOf}
 use Rattle.model.specs.Valid.{ValidScenario, Valid}
-use Rattle.model.specs.Outcomes.{Outcome, above, treeOutcomes, scenarioOutcomes, outcomesOf}
-use Rattle.model.specs.Report.{judgement, overEffects, naming, sumAt, marginAt}
+use Rattle.model.specs.Outcomes.{Outcome, treeOutcomes, scenarioOutcomes, outcomesOf}
+use Rattle.model.specs.Report.{judgement, overEffects, sumAt, marginAt}
 use Rattle.model.specs.MeaningTheorems.{SumsBounded}
 use Rattle.model.proofs.ListLaws.{each-at, sum-append, sum-le, sum-times, sum-most, sum-join, length-join, rise-once}
-use Rattle.model.proofs.OutcomeFacts.{Fit, outcome-fit}
+use Rattle.model.proofs.OutcomeLaws.{outcome-known}
 use Rattle.model.proofs.Totals.{outcomes-total}
 
 -- an outcome's effects name a target at most once, and a share is at most the whole
@@ -27,7 +27,7 @@ sum-le-leaks c v t =
     le-trans
     (sum-le _ (λ o. o .frequency) (outcomesOf c)
     (λ o m. rise-once targetOf (λ e. shareOf (o .frequency) (judgement c o e .chance)) t (o .frequency) 0 (o .effects)
-    (outcome-fit c v o m .valid .rising) (λ e k. share-le (o .frequency) (judgement c o e .chance))))
+    (outcome-known c v o m .valid .rising) (λ e k. share-le (o .frequency) (judgement c o e .chance))))
     (le-of-eq (outcomes-total c))
 
 -- at most n scenarios, each of a frequency of at most b
@@ -73,21 +73,20 @@ effects-le c =
     let k = length-append (targetRecords 0 (c .targets)) (joinOver scenarioRecords ss) in
     omega arith
 
--- an effect in a valid outcome adds at most 9 to a margin
-effect-margin : (targets t : ℕ) (o : Outcome) → Fit targets o → (e : Effect) → naming t (λ o e. above o + 1) o e ≤ 9
-effect-margin targets t o h e =
-    let k = h .shallow in eq-both (λ x. x ≤ 9) (targetOf e) t (above o + 1) 0 (omega arith) (omega arith)
+-- a figure of at most k at each effect
+pub over-most : (g : Outcome → Effect → ℕ) (k : ℕ) (os : List Outcome) → ((o : Outcome) → List·Memᴰ o os → (e : Effect) → g o e ≤ k)
+    → overEffects g os ≤ sumOver effectCount os * k
+unfolding overEffects
+over-most g k os h =
+    le-trans (sum-le _ (λ o. effectCount o * k) os (λ o m. sum-most (g o) k (o .effects) (λ e i. h o m e))) (le-of-eq (sum-times effectCount k os))
 
+-- an effect in a valid outcome adds at most 9 to a margin
 pub margin-le : (c : Content) → Valid c → (t : ℕ) → marginAt c t ≤ 9000000
-unfolding marginAt overEffects
+unfolding marginAt
 margin-le c v t =
-    let h = sum-le (λ o. sumOver (naming t (λ o e. above o + 1) o) (o .effects)) (λ o. effectCount o * 9) (outcomesOf c)
-    (λ o m. sum-most (naming t (λ o e. above o + 1) o) 9 (o .effects)
-    (λ e k. effect-margin (length (c .targets)) t o (outcome-fit c v o m) e)) in
-    let e = sum-times effectCount 9 (outcomesOf c) in
-    let k = effects-le c in
-    let r = v .fewRecords in
-    omega arith
+    le-trans
+    (over-most _ 9 (outcomesOf c) (λ o m e. let h = outcome-known c v o m .few in eq-both (λ x. x ≤ 9) (targetOf e) t _ 0 (omega arith) (omega arith)))
+    (let k = effects-le c in let r = v .fewRecords in omega arith)
 
 pub sums-bounded : SumsBounded
 sums-bounded c v t = record { sum = sum-le-leaks c v t; leaks = leaks-le c v; margin = margin-le c v t }

@@ -1,44 +1,24 @@
 -- The totals of the six outcome kinds add up to the leaks. Assumes nothing.
-use mathlib.Core.Path.{_≡_, sym, _∙_, ap₂}
-use mathlib.Core.List.{List, []}
-use Prim.Native.Nat.{ℕ, zero, suc, _+_, _*_, _^_, _≤_}
+use mathlib.Core.Path.{_≡_, sym, _∙_}
+use mathlib.Core.List.{List}
+use Prim.Native.Nat.{ℕ, zero, suc, _+_, _≤_}
 use native.Mathlib.Omega.{arith}
 use Rattle.numeric.specs.Choice.{ifEq}
-use Rattle.numeric.specs.Share.{splitOf}
-use Rattle.numeric.proofs.ShareLaws.{share-le}
 use Rattle.model.specs.Sums.{sumOver}
-use Rattle.model.specs.Content.{chance, Tree, outcome, branching, Scenario, Content}
+use Rattle.model.specs.Content.{Content}
 use Rattle.model.specs.Format.{leaksOf}
-use Rattle.model.specs.Outcomes.{Outcome, treeOutcomes, scenarioOutcomes, outcomesOf}
+use Rattle.model.specs.Outcomes.{Outcome, scenarioOutcomes, outcomesOf}
 use Rattle.model.specs.Report.{kindTotal}
 use Rattle.model.specs.MeaningTheorems.{KindsAddUp}
-use Rattle.model.proofs.ListLaws.{sum-append, sum-same, sum-add, sum-join}
-use Rattle.model.proofs.OutcomeFacts.{outcome-fit}
-
--- the frequencies of the two branches add up to that of the branching
-pub split-total : (f p : ℕ) → splitOf f p .first + splitOf f p .second ≡ f
-unfolding splitOf
-split-total f p = let h = share-le f p in omega arith
-
--- the frequencies of a tree's outcomes add up to the frequency that reaches it
-pub tree-total : (leak f w : ℕ) (path : List ℕ) (t : Tree) → sumOver (λ o. o .frequency) (treeOutcomes leak f w path t) ≡ f
-unfolding treeOutcomes sumOver
-tree-total leak f w path (outcome k es) = omega arith
-tree-total leak f w path (branching b l r) =
-    sum-append _ (treeOutcomes _ _ _ _ l) (treeOutcomes _ _ _ _ r)
-    ∙ ap₂ _+_ (tree-total leak _ _ _ l) (tree-total leak _ _ _ r)
-    ∙ split-total f (chance b)
-
-pub scenario-total : (s : Scenario) → sumOver (λ o. o .frequency) (scenarioOutcomes s) ≡ s .frequency
-unfolding scenarioOutcomes
-scenario-total s = tree-total (s .frequency) (s .frequency) (s .frequency * 10 ^ 48) [] (s .tree)
+use Rattle.model.proofs.ListLaws.{sum-same, sum-add, sum-join}
+use Rattle.model.proofs.OutcomeLaws.{frequencies-add-up, outcome-known}
 
 -- the frequencies of all outcomes add up to the leaks
 pub outcomes-total : (c : Content) → sumOver (λ o. o .frequency) (outcomesOf c) ≡ leaksOf c
 unfolding outcomesOf leaksOf
 outcomes-total c =
     sum-join (λ (o : Outcome). o .frequency) scenarioOutcomes (c .scenarios)
-    ∙ sum-same (λ s. sumOver (λ o. o .frequency) (scenarioOutcomes s)) (λ s. s .frequency) (c .scenarios) (λ s m. scenario-total s)
+    ∙ sum-same (λ s. sumOver (λ o. o .frequency) (scenarioOutcomes s)) (λ s. s .frequency) (c .scenarios) (λ s m. frequencies-add-up s)
 
 -- a known kind is exactly one of the six, so the six parts add up to the frequency
 pub one-kind : (k f : ℕ) → k ≤ 5 → ifEq k 0 f 0 + ifEq k 1 f 0 + ifEq k 2 f 0 + ifEq k 3 f 0 + ifEq k 4 f 0 + ifEq k 5 f 0 ≡ f
@@ -65,5 +45,5 @@ unfolding kindTotal
 kinds-add-up c v =
     sym (six-totals (outcomesOf c))
     ∙ sum-same (λ o. inKind 0 o + inKind 1 o + inKind 2 o + inKind 3 o + inKind 4 o + inKind 5 o) (λ o. o .frequency) (outcomesOf c)
-    (λ o m. one-kind (o .kind) (o .frequency) (outcome-fit c v o m .valid .known))
+    (λ o m. one-kind (o .kind) (o .frequency) (outcome-known c v o m .valid .known))
     ∙ outcomes-total c

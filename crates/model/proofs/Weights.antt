@@ -2,13 +2,15 @@
 use mathlib.Core.Path.{_≡_, refl, sym, _∙_, ap}
 use mathlib.Core.List.{List, [], _∷_}
 use Prim.Native.Nat.{ℕ, zero, suc, _+_, _-_, _*_, _^_, _≤_}
-use native.Mathlib.Nat.{add-zero, add-suc, mul-one, mul-suc, pow-zero, pow-suc, mul-assoc, mul-comm, mul-right-comm, mul-le-mul-left}
+use native.Mathlib.Nat.{add-zero, add-suc, mul-one, mul-suc, pow-zero, pow-suc, mul-assoc, mul-comm, mul-right-comm}
 use native.Mathlib.Omega.{arith}
 use lib.ListN.{length}
 use Rattle.numeric.specs.Share.{certain}
 use Rattle.model.specs.Bounds.{mostAbove}
+use Rattle.model.specs.Content.{chance}
+use Rattle.model.specs.Valid.{ChancesValid}
 use Rattle.model.specs.MeaningTheorems.{product, WeightsAreExact, WeightsAddUp}
-use Rattle.model.proofs.OutcomeLaws.{Branch, scenario-outcome, scenario-total}
+use Rattle.model.proofs.OutcomeLaws.{weight-total, scenario-total, Branch, scenario-outcome}
 
 pow-add : (a m n : ℕ) → a ^ (m + n) ≡ a ^ m * a ^ n
 pow-add a m zero = rw (add-zero, pow-zero, mul-one) refl
@@ -71,4 +73,6 @@ weights-are-exact c v s i o m =
     rw (k .holds) (weight-exact (s .frequency) (o .path) (k .few))
 
 pub weights-add-up : WeightsAddUp
-weights-add-up = scenario-total (λ f w. w) (λ f w p h. let k : w * p ≤ w * certain = mul-le-mul-left w h in omega arith)
+unfolding ChancesValid
+weights-add-up = scenario-total ChancesValid (λ f w. w)
+    (λ b l r v. (v .1, v .2, λ f w. weight-total w (chance b) (v .0)))

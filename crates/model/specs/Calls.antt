@@ -119,7 +119,7 @@ unfoldable pub answers : List ℕ → List Call → List Answer
 answers before [] = []
 answers before (c ∷ cs) = answer before c ∷ answers (joinedAfter before c) cs
 
--- a list of calls that a caller can make: pieces are of bytes, and a lent list holds what 16 bits hold
+-- a list of calls that a caller can make: pieces are of bytes
 abbrev pub Bytes : List ℕ → Type 0
 Bytes l = Each (λ b. b < 256) l
 

@@ -16,8 +16,8 @@ use Rattle.model.specs.Valid.{Valid, Each}
 use Rattle.model.specs.Outcomes.{Outcome, above, outcomesOf}
 use Rattle.model.specs.Report.{marginAt, exactAt, Named}
 use Rattle.model.specs.Faults.{Context, start, role, orderFault, contextAfter, contextAfterAll}
-use Rattle.model.specs.Verdict.{closed, verdict}
-use Rattle.model.specs.Calls.{Call, totals, target, gaveTotals, gaveTarget, answers, joined, Callable}
+use Rattle.model.specs.Verdict.{closed, refused, verdict}
+use Rattle.model.specs.Calls.{Call, totals, target, gaveTotals, gaveTarget, answers, joined, Bytes, Callable}
 use Rattle.model.specs.Machine.{State, accepted, fresh, readAll, stateAfterAll, answerIn, answersIn}
 
 -- Answers: every call is answered as 01 says from the bytes joined before it and the call alone, wherever the bytes were cut (demands 1 and 2).
@@ -37,6 +37,13 @@ ClosedExactlyThen = (cs : List Call) → Each Callable cs → (stateAfterAll fre
 -- and then the content is that part's, whatever follows it
 abbrev pub ClosedContent : Type 0
 ClosedContent = (c : Content) → Valid c → (tail : List ℕ) → verdict (bytesOf c ++ tail) ≡ closed (length (bytesOf c)) c
+
+-- a refusal stays, whatever bytes follow, and so does a closing
+abbrev pub RefusalStays : Type 0
+RefusalStays = (l more : List ℕ) (n p : ℕ) → Bytes (l ++ more) → verdict l ≡ refused n p → verdict (l ++ more) ≡ refused n p
+
+abbrev pub ClosingStays : Type 0
+ClosingStays = (l more : List ℕ) (p : ℕ) (c : Content) → Bytes (l ++ more) → verdict l ≡ closed p c → verdict (l ++ more) ≡ closed p c
 
 -- "the totals of the six outcome kinds add up to the leaks, to the last unit"
 pub record TotalsHold (cs : List Call) (c : Content) : Type 0 where

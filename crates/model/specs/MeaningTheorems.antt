@@ -9,7 +9,7 @@ use Rattle.model.specs.Bounds.{mostScenarios, mostFrequency}
 use Rattle.model.specs.Sums.{sumOver}
 use Rattle.model.specs.Content.{facts, Effect, targetOf, Scenario, Content}
 use Rattle.model.specs.Format.{leaksOf}
-use Rattle.model.specs.Valid.{Valid, RiseFrom}
+use Rattle.model.specs.Valid.{Valid, RiseFrom, ChancesValid}
 use Rattle.model.specs.Outcomes.{Outcome, above, scenarioOutcomes}
 use Rattle.model.specs.Report.{targetAt, judgement, kindTotal, sumAt, marginAt, exactAt, Named, dominoOf}
 
@@ -45,9 +45,9 @@ WeightsAreExact = (c : Content) → Valid c → (s : Scenario) → List·Memᴰ 
     → (o : Outcome) → List·Memᴰ o (scenarioOutcomes s)
     → o .weight * 10 ^ (6 * above o) ≡ s .frequency * 10 ^ 48 * product (o .path)
 
--- "the second the rest": a tree's weights add up to frequency × 10^48
+-- "the second the rest": a tree's weights add up to frequency × 10^48, at any depth
 abbrev pub WeightsAddUp : Type 0
-WeightsAddUp = (c : Content) → Valid c → (s : Scenario) → List·Memᴰ s (c .scenarios)
+WeightsAddUp = (s : Scenario) → ChancesValid (s .tree)
     → sumOver (λ o. o .weight) (scenarioOutcomes s) ≡ s .frequency * 10 ^ 48
 
 -- "exactly the equipment with an effect whose chance is above 700,000, under a leak of at least 10^7 units"

@@ -51,6 +51,11 @@ ValidTree targets above (outcome k es) = ValidOutcome targets k es
 ValidTree targets above (branching b l r) =
     (above ≤ mostAbove) × ValidBranching b × ValidTree targets (suc above) l × ValidTree targets (suc above) r
 
+-- the chances alone: every branching of a tree of any depth is valid
+unfoldable pub ChancesValid : Tree → Type 0
+ChancesValid (outcome k es) = Unit {0}
+ChancesValid (branching b l r) = ValidBranching b × ChancesValid l × ChancesValid r
+
 pub record ValidScenario (targets : ℕ) (s : Scenario) : Type 0 where
   pub number : s .number < 2 ^ 32
   pub least : leastFrequency ≤ s .frequency

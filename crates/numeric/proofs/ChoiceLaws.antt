@@ -32,53 +32,57 @@ module _ {A : Type 0} where
   ge-case m n x y h e = rw (le-ltb m n h) e
 
 -- what holds of both sides holds of the choice
-both-picked : {A : Type 0} (P : A → Type 0) (b : Bool) (x y : A) → P x → P y → P (pick b x y)
-both-picked P true x y p q = p
-both-picked P false x y p q = q
+pub pick-both : {A : Type 0} (P : A → Type 0) (b : Bool) (x y : A) → P x → P y → P (pick b x y)
+pick-both P true x y p q = p
+pick-both P false x y p q = q
 
 module _ {A : Type 0} (P : A → Type 0) (m n : ℕ) (x y : A) (p : P x) (q : P y) where
   pub eq-both : P (ifEq m n x y)
   unfolding ifEq
-  eq-both = both-picked P (eqb m n) x y p q
+  eq-both = pick-both P (eqb m n) x y p q
 
   pub le-both : P (ifLe m n x y)
   unfolding ifLe
-  le-both = both-picked P (leb m n) x y p q
+  le-both = pick-both P (leb m n) x y p q
 
   pub lt-both : P (ifLt m n x y)
   unfolding ifLt
-  lt-both = both-picked P (ltb m n) x y p q
+  lt-both = pick-both P (ltb m n) x y p q
 
--- A choice that is a value which one side is not: the other side was chosen, and the comparison says which.
-picked-first : {A : Type 0} (b : Bool) (x y z : A) → pick b x y ≡ z → (y ≡ z → ⊥) → (b ≡ true) × (x ≡ z)
-picked-first true x y z e n = (refl, e)
-picked-first false x y z e n = absurd (n e)
+-- A choice that is a value: the first side is, or the second, and the comparison says which.
+picked-elim : {A C : Type 0} (b : Bool) (x y z : A) → pick b x y ≡ z → (b ≡ true → x ≡ z → C) → (b ≡ false → y ≡ z → C) → C
+picked-elim true x y z e f g = f refl e
+picked-elim false x y z e f g = g refl e
 
-picked-second : {A : Type 0} (b : Bool) (x y z : A) → pick b x y ≡ z → (x ≡ z → ⊥) → (b ≡ false) × (y ≡ z)
-picked-second true x y z e n = absurd (n e)
-picked-second false x y z e n = (refl, e)
+module _ {A C : Type 0} {m n : ℕ} {x y z : A} where
+  pub eq-elim : ifEq m n x y ≡ z → (m ≡ n → x ≡ z → C) → ((m ≡ n → ⊥) → y ≡ z → C) → C
+  unfolding ifEq
+  eq-elim e f g = picked-elim (eqb m n) x y z e (λ q. f (eqb-true m n q)) (λ q. g (eqb-false m n q))
 
+  pub le-elim : ifLe m n x y ≡ z → (m ≤ n → x ≡ z → C) → (n < m → y ≡ z → C) → C
+  unfolding ifLe
+  le-elim e f g = picked-elim (leb m n) x y z e (λ q. f (leb-true m n q)) (λ q. g (leb-false m n q))
+
+  pub lt-elim : ifLt m n x y ≡ z → (m < n → x ≡ z → C) → (n ≤ m → y ≡ z → C) → C
+  unfolding ifLt
+  lt-elim e f g = picked-elim (ltb m n) x y z e (λ q. f (ltb-true m n q)) (λ q. g (ltb-false m n q))
+
+-- a choice that is a value which one side is not is the other side
 module _ {A : Type 0} (m n : ℕ) (x y z : A) where
   pub eq-first : ifEq m n x y ≡ z → (y ≡ z → ⊥) → (m ≡ n) × (x ≡ z)
-  unfolding ifEq
-  eq-first e f = let p = picked-first (eqb m n) x y z e f in (eqb-true m n (p .0), p .1)
+  eq-first e f = eq-elim e (λ h q. (h, q)) (λ h q. absurd (f q))
 
   pub eq-second : ifEq m n x y ≡ z → (x ≡ z → ⊥) → (m ≡ n → ⊥) × (y ≡ z)
-  unfolding ifEq
-  eq-second e f = let p = picked-second (eqb m n) x y z e f in (eqb-false m n (p .0), p .1)
+  eq-second e f = eq-elim e (λ h q. absurd (f q)) (λ h q. (h, q))
 
   pub le-first : ifLe m n x y ≡ z → (y ≡ z → ⊥) → (m ≤ n) × (x ≡ z)
-  unfolding ifLe
-  le-first e f = let p = picked-first (leb m n) x y z e f in (leb-true m n (p .0), p .1)
+  le-first e f = le-elim e (λ h q. (h, q)) (λ h q. absurd (f q))
 
   pub le-second : ifLe m n x y ≡ z → (x ≡ z → ⊥) → (n < m) × (y ≡ z)
-  unfolding ifLe
-  le-second e f = let p = picked-second (leb m n) x y z e f in (leb-false m n (p .0), p .1)
+  le-second e f = le-elim e (λ h q. absurd (f q)) (λ h q. (h, q))
 
   pub lt-first : ifLt m n x y ≡ z → (y ≡ z → ⊥) → (m < n) × (x ≡ z)
-  unfolding ifLt
-  lt-first e f = let p = picked-first (ltb m n) x y z e f in (ltb-true m n (p .0), p .1)
+  lt-first e f = lt-elim e (λ h q. (h, q)) (λ h q. absurd (f q))
 
   pub lt-second : ifLt m n x y ≡ z → (x ≡ z → ⊥) → (n ≤ m) × (y ≡ z)
-  unfolding ifLt
-  lt-second e f = let p = picked-second (ltb m n) x y z e f in (ltb-false m n (p .0), p .1)
+  lt-second e f = lt-elim e (λ h q. absurd (f q)) (λ h q. (h, q))
