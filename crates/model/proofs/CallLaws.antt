@@ -13,7 +13,7 @@ use Rattle.model.specs.Valid.{Each}
 use Rattle.model.specs.Report.{dominoOf}
 use Rattle.model.specs.Verdict.{Verdict, unclosed, closed, refused, verdict}
 use Rattle.model.specs.Calls.{Call, piece, totals, target, domino, Answer, tookPiece, gaveTotals, gaveTarget, gaveDomino, noTotals, noTarget, noDomino, front, pieceNumber, pieceAnswer, totalsAnswer, targetAnswer, dominoAnswer, answer, joinedAfter, joined, answers, Bytes, Callable}
-use Rattle.model.specs.Machine.{State, readAll, fresh, numberAfter, placeAfter, totalsIn, targetIn, markedIn, dominoIn, lentAfter, stateAfter, answerIn, stateAfterAll, answersIn}
+use Rattle.model.specs.Machine.{State, readAll, fresh, numberAfter, placeAfter, totalsIn, targetIn, markedIn, dominoIn, listAfter, stateAfter, answerIn, stateAfterAll, answersIn}
 use Rattle.model.specs.MachineTheorems.{Answers, CutsMakeNoDifference}
 use Rattle.model.proofs.ListLaws.{each-append}
 use Rattle.model.proofs.ReadLaws.{read-append, read-stays}
@@ -59,8 +59,8 @@ report-target s total t (refused n p) a =
     ap gaveTarget (sym (eq-case _ _ _ _ h (ap₂ noTarget (sym (a .1)) (sym (a .2)))))
 report-target s total t (closed p c) a = ap gaveTarget (a .target t)
 
-report-domino : (s : State) (total : ℕ) (l : List ℕ) (v : Verdict) → Agrees s total v → gaveDomino (dominoIn s (length l)) (lentAfter s l) ≡ dominoAnswer v total l
-unfolding Agrees dominoAnswer dominoIn lentAfter
+report-domino : (s : State) (total : ℕ) (l : List ℕ) (v : Verdict) → Agrees s total v → gaveDomino (dominoIn s (length l)) (listAfter s l) ≡ dominoAnswer v total l
+unfolding Agrees dominoAnswer dominoIn listAfter
 report-domino s total l unclosed a =
     let p = a .0 in
     ap₂ gaveDomino
@@ -78,7 +78,7 @@ report-domino s total l (closed p c) a = room (decLe (length (dominoOf c)) (leng
     m = ap length (a .domino)
 
     room : Dec (length (dominoOf c) ≤ length l)
-        → gaveDomino (dominoIn s (length l)) (lentAfter s l)
+        → gaveDomino (dominoIn s (length l)) (listAfter s l)
         ≡ ifLe (length (dominoOf c)) (length l) (gaveDomino (record { number = 0; place = p; count = length (dominoOf c) }) (front (dominoOf c) l)) (gaveDomino (noDomino 10 p) l)
     room (yes h) =
         le-case _ _ _ _ h

@@ -19,7 +19,7 @@ use Rattle.model.specs.Faults.{Context, start, role, fault, contextAfter
 use Rattle.model.specs.Verdict.{decode, cut, contentOf, Verdict, unclosed, closed, refused, judgeLeft, judge, verdict}
 use Rattle.model.specs.Calls.{Call, totals, target, gaveTotals, gaveTarget, totalsOf, targetReportOf, joinedAfter, joined, Bytes, Callable}
 use Rattle.model.specs.Machine.{State, readAll, fresh, stateAfterAll, answerIn}
-use Rattle.model.specs.MachineTheorems.{Answers, ClosedFront, ClosedExactlyThen, ClosedContent, RefusalStays, ClosingStays, TotalsHold, Near, Nought, TargetHolds, Demand3}
+use Rattle.model.specs.MachineTheorems.{Answers, ClosedFront, ClosedExactlyThen, ClosedContent, RefusalStays, ClosingStays, TotalsHold, Near, BothZero, TargetHolds, Demand3}
 use Rattle.model.proofs.ListLaws.{each-parts, join-append, join-one, each-join}
 use Rattle.model.proofs.Accepts.{Accepts, Fits, WholeBytes}
 use Rattle.model.proofs.CodecLaws.{decode-encode, encode-decode, decode-fits, encode-bytes}
@@ -235,7 +235,7 @@ demand-totals cs c v s e a =
       kinds = omega arith;
     }
 
-near : (c : Content) (t : ℕ) → Within c t ⊎ Unnamed c t → Near c t (sumAt c t) (marginAt c t) ⊎ Nought c t (sumAt c t)
+near : (c : Content) (t : ℕ) → Within c t ⊎ Unnamed c t → Near c t (sumAt c t) (marginAt c t) ⊎ BothZero c t (sumAt c t)
 near c t (inl w) = inl (record { named = w .named; notAbove = w .notAbove; notBelow = w .notBelow })
 near c t (inr u) = inr (record { unnamed = u .unnamed; reported = u .sum; exact = u .exact })
 

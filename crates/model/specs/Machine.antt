@@ -355,8 +355,8 @@ dominoIn s n =
     (noDomino 8 (s .core .reading .place)))
 
 -- the lent list afterwards
-unfoldable pub lentAfter : State → List ℕ → List ℕ
-lentAfter s l =
+unfoldable pub listAfter : State → List ℕ → List ℕ
+listAfter s l =
     ifEq (s .core .reading .phase) 1
     (ifLe (length (markedIn s)) (length l) (front (markedIn s) l) l)
     l
@@ -373,7 +373,7 @@ answerIn s (piece b) =
     tookPiece (numberAfter (s .core .reading .place) (length b) (readAll s b .core .reading)) (placeAfter (readAll s b .core .reading))
 answerIn s totals = gaveTotals (totalsIn (s .core))
 answerIn s (target t) = gaveTarget (targetIn s t)
-answerIn s (domino l) = gaveDomino (dominoIn s (length l)) (lentAfter s l)
+answerIn s (domino l) = gaveDomino (dominoIn s (length l)) (listAfter s l)
 
 unfoldable pub stateAfterAll : State → List Call → State
 stateAfterAll s [] = s

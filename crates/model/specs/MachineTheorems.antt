@@ -61,7 +61,7 @@ pub record Near (c : Content) (t sum margin : ℕ) : Type 0 where
   pub notBelow : exactAt c t < sum * 10 ^ 54 + margin * 10 ^ 54
 
 -- "or both are nought if no effect names it"
-pub record Nought (c : Content) (t sum : ℕ) : Type 0 where
+pub record BothZero (c : Content) (t sum : ℕ) : Type 0 where
   pub unnamed : Named c t → ⊥
   pub reported : sum ≡ 0
   pub exact : exactAt c t ≡ 0
@@ -71,7 +71,7 @@ pub record TargetHolds (cs : List Call) (c : Content) (t : ℕ) : Type 0 where
   pub answered : answerIn (stateAfterAll fresh cs) (target t) ≡ gaveTarget report
   pub taken : report .number ≡ 0
   pub margin : report .margin ≡ marginAt c t
-  pub near : Near c t (report .sum) (report .margin) ⊎ Nought c t (report .sum)
+  pub near : Near c t (report .sum) (report .margin) ⊎ BothZero c t (report .sum)
 
 pub record DemandHolds (cs : List Call) (c : Content) : Type 0 where
   pub totals : TotalsHold cs c

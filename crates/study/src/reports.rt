@@ -4,7 +4,7 @@ ghost use Prim.Native.Nat.{_≤_, min};
 ghost use lib.ListN.{length, getD};
 ghost use Rattle.model.specs.Calls.{front, noDomino};
 ghost use Rattle.model.specs.Sums.{numbersBelow};
-ghost use Rattle.model.specs.Machine.{markOf, totalsIn, targetIn, dominoIn, lentAfter};
+ghost use Rattle.model.specs.Machine.{markOf, totalsIn, targetIn, dominoIn, listAfter};
 ghost use Rattle.study.specs.View.{view};
 use crate::Study;
 use state::DominoReport;
@@ -98,7 +98,7 @@ impl Study {
     // The domino list, into the front of a lent list; the rest of it stays, and a refused call writes none.
     pub fn domino(self, list: &mut [u16]) -> DominoReport
         ensures { λ r. ⌜ r ≡ dominoIn (view self) (length (now (list .entry))) ⌝ }
-        ensures { λ r. ⌜ now (list .exit) ≡ lentAfter (view self) (now (list .entry)) ⌝ }
+        ensures { λ r. ⌜ now (list .exit) ≡ listAfter (view self) (now (list .entry)) ⌝ }
     {
         let core = self.core;
         let h = core.reading;

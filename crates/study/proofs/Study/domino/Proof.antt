@@ -2,7 +2,7 @@
 use mathlib.Core.Path.{refl}
 use native.Mathlib.Omega.{arith}
 use Rattle.numeric.proofs.ChoiceLaws.{eq-case, ne-case, le-case, gt-case}
-use Rattle.model.specs.Machine.{markedIn, dominoIn, lentAfter}
+use Rattle.model.specs.Machine.{markedIn, dominoIn, listAfter}
 use borrow.Author.Needs.{needs}
 use Rattle.study.proofs.Study.domino.Statement.{statement}
 use Rattle.study.proofs.Study.domino.Tie as tie
@@ -11,14 +11,14 @@ refused-domino-requires : tie.Need-refused-domino-requires
 refused-domino-requires c κs = search needs
 
 returns : tie.Need-returns
-unfolding dominoIn lentAfter markedIn
+unfolding dominoIn listAfter markedIn
 returns c = (eq-case _ _ _ _ (search needs) (c .refused-domino .ensures), ne-case _ _ _ _ (search needs) refl)
 
 refused-domino-requires-2 : tie.Need-refused-domino-requires-2
 refused-domino-requires-2 c κs = search needs
 
 returns-2 : tie.Need-returns-2
-unfolding dominoIn lentAfter markedIn
+unfolding dominoIn listAfter markedIn
 returns-2 c = (
   ne-case _ _ _ _ (search needs) (ne-case _ _ _ _ (search needs) (c .refused-domino2 .ensures)),
   ne-case _ _ _ _ (search needs) refl,
@@ -34,7 +34,7 @@ refused-domino-requires-3 : tie.Need-refused-domino-requires-3
 refused-domino-requires-3 c κs = search needs
 
 returns-3 : tie.Need-returns-3
-unfolding dominoIn lentAfter markedIn
+unfolding dominoIn listAfter markedIn
 returns-3 c =
     let z = c .before .before .before .before .least .ensures in
     let m = rw z at (c .before .before .count-marked .ensures) in
@@ -50,7 +50,7 @@ same-length : tie.Need-same-length
 same-length c = search needs
 
 returns-4 : tie.Need-returns-4
-unfolding dominoIn lentAfter markedIn
+unfolding dominoIn listAfter markedIn
 returns-4 c =
     let z = c .before .before .before .before .before .before .before .before .least .ensures in
     let m = rw z at (c .before .before .before .before .before .before .count-marked .ensures) in
