@@ -6,7 +6,7 @@ use state::Totals;
 use study::Study;
 
 // The longest list that a call for the domino list may lend, and what each of its numbers holds before.
-const MOST_LENT: usize = 300;
+const MOST_NUMBERS: usize = 300;
 
 const BEFORE: u16 = 65_535;
 
@@ -100,7 +100,7 @@ fn wide(x: u16) -> u64 {
     x as u64
 }
 
-fn lent_list(out: &mut [u8], at: usize, lent: &[u16]) -> usize {
+fn number_list(out: &mut [u8], at: usize, lent: &[u16]) -> usize {
     let mut next = line::text(out, at, b" lent");
     let mut i: usize = 0;
     while i < lent.len() {
@@ -122,16 +122,16 @@ fn domino_line(study: Study, lent: &mut [u16], out: &mut [u8]) {
     let word = line::text(out, 0, b"domino");
     let at = number_and_place(out, word, r.number, r.place);
     let next = domino_count(out, at, r);
-    let last = lent_list(out, next, lent);
+    let last = number_list(out, next, lent);
     line::end(out, last);
 }
 
 // Answers whether n numbers can be lent.
 pub(crate) fn domino(study: Study, n: usize, out: &mut [u8]) -> bool {
-    if MOST_LENT < n {
+    if MOST_NUMBERS < n {
         return false;
     }
-    let mut lent = [BEFORE; MOST_LENT];
+    let mut lent = [BEFORE; MOST_NUMBERS];
     domino_line(study, &mut lent[..n], out);
     true
 }

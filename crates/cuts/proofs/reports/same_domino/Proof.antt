@@ -8,17 +8,17 @@ use Rattle.cuts.proofs.reports.same_domino.Tie as tie
 array-borrow-prefix-x : tie.Need-array-borrow-prefix-x
 array-borrow-prefix-x c = search needs
 
-slice-aggregate-same-lent : tie.Need-slice-aggregate-same-lent
-slice-aggregate-same-lent c = sym (length-take-le _ _ (search needs))
+slice-aggregate-same-list : tie.Need-slice-aggregate-same-list
+slice-aggregate-same-list c = sym (length-take-le _ _ (search needs))
 
 array-borrow-prefix-y : tie.Need-array-borrow-prefix-y
 array-borrow-prefix-y c = search needs
 
-slice-aggregate-same-lent-2 : tie.Need-slice-aggregate-same-lent-2
-slice-aggregate-same-lent-2 c = sym (length-take-le _ _ (search needs))
+slice-aggregate-same-list-2 : tie.Need-slice-aggregate-same-list-2
+slice-aggregate-same-list-2 c = sym (length-take-le _ _ (search needs))
 
-same-lent-requires : tie.Need-same-lent-requires
-same-lent-requires c κs = search needs
+same-list-requires : tie.Need-same-list-requires
+same-list-requires c κs = search needs
 
 returns : tie.Need-returns
 returns c = search needs
@@ -28,8 +28,8 @@ same-domino-spec =
     tie.close
     (tie.spec
     array-borrow-prefix-x
-    slice-aggregate-same-lent
+    slice-aggregate-same-list
     array-borrow-prefix-y
-    slice-aggregate-same-lent-2
-    same-lent-requires
+    slice-aggregate-same-list-2
+    same-list-requires
     returns)

@@ -1,10 +1,10 @@
--- `replay::answers::lent_list` is safe and ends. The line keeps its length; the measure is how many numbers are still to come. Assumes nothing.
+-- `replay::answers::number_list` is safe and ends. The line keeps its length; the measure is how many numbers are still to come. Assumes nothing.
 use mathlib.Core.Path.{_≡_}
 use Prim.Native.Nat.{_-_}
 use lib.ListN.{length}
 use borrow.Author.Needs.{needs}
-use Rattle.replay.proofs.answers.lent_list.Statement.{statement}
-use Rattle.replay.proofs.answers.lent_list.Tie as tie
+use Rattle.replay.proofs.answers.number_list.Statement.{statement}
+use Rattle.replay.proofs.answers.number_list.Tie as tie
 
 abbrev Inv-loop : tie.InvT-loop
 Inv-loop out₀ at lent next₀ i₀ out next i = length out ≡ length out₀
@@ -48,8 +48,8 @@ same-length c = search needs
 returns : tie.Need-returns Inv-loop μ-loop
 returns c = search needs
 
-pub lent-list-spec : {M : Type 1} → statement M
-lent-list-spec =
+pub number-list-spec : {M : Type 1} → statement M
+number-list-spec =
     tie.close
     (tie.spec
     Inv-loop
