@@ -58,7 +58,7 @@ fn same_list(x: &[u16], y: &[u16]) -> bool {
 }
 
 // The domino list, into two lent lists.
-fn same_list(a: Study, b: Study, x: &mut [u16], y: &mut [u16]) -> bool {
+fn same_filled(a: Study, b: Study, x: &mut [u16], y: &mut [u16]) -> bool {
     let p = a.domino(x);
     let q = b.domino(y);
     if p.number != q.number || p.place != q.place || p.count != q.count {
@@ -73,7 +73,7 @@ fn same_domino(a: Study, b: Study, n: usize) -> bool
 {
     let mut x = [65_535u16; 300];
     let mut y = [65_535u16; 300];
-    same_list(a, b, &mut x[..n], &mut y[..n])
+    same_filled(a, b, &mut x[..n], &mut y[..n])
 }
 
 // The domino list goes into lists that are long enough, and into lists that are too short where any equipment is listed.
