@@ -1,79 +1,68 @@
--- `log2::step_of` meets its contract: the mantissa reaches step `low` and not step `high`, and the gap between the two falls to one. Assumes nothing.
+-- `log2::step_of` meets its contract: the row by the rows' first thresholds, and the step within the row. Assumes nothing.
 use mathlib.Core.Path.{_≡_}
 use Prim.Native.Nat.{ℕ, _+_, _-_, _*_, _^_, _<_, _≤_}
 use native.Mathlib.Omega.{arith}
 use borrow.Author.Needs.{needs}
-use Rattle.log2.proofs.Thresholds.{above-threshold, below-threshold, first-step, past-last-step}
+use Rattle.log2.proofs.Thresholds.{thresholds-rise, some-reached, row-low, first-step, step-from}
 use Rattle.log2.proofs.step_of.Statement.{statement}
 use Rattle.log2.proofs.step_of.Tie as tie
 
-abbrev Inv-loop : tie.InvT-loop
-Inv-loop mantissa low₀ high₀ low high =
-    (low < high) × (high ≤ 256) × (2 ^ (31 * 256 + low) ≤ mantissa ^ 256) × (mantissa ^ 256 < 2 ^ (31 * 256 + high))
+-- the mantissa reaches the first of the rows, and the first step of its row
+some-row : (c : tie.After-reached) → 1 ≤ c .reached .result
+some-row c =
+    some-reached 0 16 _ _ _ (c .before .before .heads .ensures) (first-step _ (c .before .before .before .pre)) (c .reached .ensures)
 
-abbrev μ-loop : tie.MeasureT-loop
-μ-loop mantissa low₀ high₀ low high = high - low
+row-reached : (c : tie.After-reached) → 2 ^ (31 * 256 + 16 * (c .reached .result - 1)) ≤ c .before .before .before .args .mantissa ^ 256
+row-reached c = row-low _ _ _ (c .before .before .heads .ensures) (c .reached .ensures) (some-row c)
 
-loop-holds : tie.Need-loop-holds Inv-loop μ-loop
-loop-holds c = (omega arith, omega arith, first-step _ (c .pre), past-last-step _ (omega arith))
+some-step : (c : tie.After-reached2) → 1 ≤ c .reached2 .result
+some-step c =
+    some-reached (16 * (c .before .before .before .reached .result - 1)) 1 _ _ _ (c .before .before .row .ensures) (row-reached (c .before .before .before)) (c .reached2 .ensures)
 
-sub-loop : tie.Need-sub-loop Inv-loop μ-loop
-sub-loop c = search needs
+heads-requires : tie.Need-heads-requires
+heads-requires c κs = search needs
 
-sub-middle : tie.Need-sub-middle Inv-loop μ-loop
-sub-middle c = search needs
+reached-requires : tie.Need-reached-requires
+reached-requires c κs = thresholds-rise 0 16 _ (c .before .heads .ensures)
 
-add-middle : tie.Need-add-middle Inv-loop μ-loop
-add-middle c = search needs
+sub-i : tie.Need-sub-i
+sub-i c = some-row c
 
-threshold-requires : tie.Need-threshold-requires Inv-loop μ-loop
-threshold-requires c κs = search needs
+row-requires : tie.Need-row-requires
+row-requires c κs = omega (arith, c .reached .ensures .within, some-row c)
 
-loop-less : tie.Need-loop-less Inv-loop μ-loop
-loop-less c = search needs
+reached-requires-2 : tie.Need-reached-requires-2
+reached-requires-2 c κs = thresholds-rise _ 1 _ (c .before .row .ensures)
 
-loop-again : tie.Need-loop-again Inv-loop μ-loop
-loop-again c = (
-  search needs,
-  search needs,
-  above-threshold _ _ _ (c .before .threshold .ensures) (c .if1 .taken),
-  c .before .before .before .loop .inv .3,
-)
+sub-j : tie.Need-sub-j
+sub-j c = some-step c
 
-loop-less-2 : tie.Need-loop-less-2 Inv-loop μ-loop
-loop-less-2 c = search needs
+mul-result : tie.Need-mul-result
+mul-result c = search needs
 
-loop-again-2 : tie.Need-loop-again-2 Inv-loop μ-loop
-loop-again-2 c = (
-  search needs,
-  search needs,
-  c .before .before .before .loop .inv .2,
-  below-threshold _ _ _ (c .before .threshold .ensures) (c .if1 .left),
-)
+add-result : tie.Need-add-result
+add-result c = search needs
 
-cast-result : tie.Need-cast-result Inv-loop μ-loop
+cast-result : tie.Need-cast-result
 cast-result c = search needs
 
-returns : tie.Need-returns Inv-loop μ-loop
+returns : tie.Need-returns
 returns c =
-    let v = c .before .loop in
-    let e : _≡_ {A = ℕ} (31 * 256 + v .low + 1) (31 * 256 + v .high) = omega arith in
-    record { within = omega arith; low = v .inv .2; high = rw e (v .inv .3) }
+    let r = c .before .before .before in
+    step-from _ _ _ _ _ (r .before .before .heads .ensures) (c .before .before .row .ensures) (r .reached .ensures) (c .reached2 .ensures)
+    (some-row r) (some-step c) (omega (arith, r .before .before .before .fits .mantissa .fits))
 
 pub step-of-spec : {M : Type 1} → statement M
 step-of-spec =
     tie.close
     (tie.spec
-    Inv-loop
-    μ-loop
-    loop-holds
-    sub-loop
-    sub-middle
-    add-middle
-    threshold-requires
-    loop-less
-    loop-again
-    loop-less-2
-    loop-again-2
+    heads-requires
+    reached-requires
+    sub-i
+    row-requires
+    reached-requires-2
+    sub-j
+    mul-result
+    add-result
     cast-result
     returns)
