@@ -1,3 +1,4 @@
 pub mod ViewLaws
 pub mod MarkLaws
 pub mod LoopLaws
+pub mod SpanLaws

@@ -3,6 +3,7 @@ mod faults;
 mod pieces;
 mod records;
 mod reports;
+mod whole;
 
 ghost use mathlib.Core.Path.{_≡_};
 ghost use Rattle.model.specs.Machine.{fresh};

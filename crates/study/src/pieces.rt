@@ -4,7 +4,7 @@ ghost use lib.ListN.{length};
 ghost use Rattle.model.specs.Machine.{readAll, numberAfter, placeAfter};
 ghost use Rattle.study.specs.View.{view};
 use crate::Study;
-use crate::records::read_byte;
+use crate::whole::read_on;
 
 // A piece is read: the study after it, with the number and the place of the answer.
 pub struct Taken {
@@ -29,16 +29,18 @@ impl Study {
         let before = core.reading.place;
         let mut i = 0;
         while i < bytes.len() {
-            core = read_byte(
+            let run = read_on(
                 core,
-                bytes[i],
+                bytes,
+                i,
                 &mut pending,
                 &mut stack,
                 &mut sums,
                 &mut margins,
                 &mut facts,
             );
-            i += 1;
+            core = run.core;
+            i = run.at;
         }
         let h = core.reading;
         let number = steps::piece_number(before, bytes.len() as u64, h);

@@ -7,7 +7,7 @@ use crate::faults::fault;
 use state::Core;
 
 // The record in the pending bytes is taken, or refused at its first byte.
-fn record_read(
+pub(crate) fn record_read(
     c: Core,
     p: &[u8; 16],
     stack: &mut [u64; 9],

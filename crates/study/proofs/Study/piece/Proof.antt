@@ -1,8 +1,8 @@
 -- `study::Study::piece` meets its contract: after i bytes the locals are the machine after the first i bytes. Assumes nothing.
 use mathlib.Core.Path.{_≡_, sym, ap, _∙_}
-use Prim.Native.Nat.{_-_, _≤_}
+use Prim.Native.Nat.{ℕ, _-_, _≤_}
 use native.Mathlib.Omega.{arith}
-use lib.ListN.{length, take}
+use lib.ListN.{length, take, length-map}
 use borrow.Author.Needs.{needs}
 use Rattle.model.specs.Machine.{state, readAll}
 use Rattle.study.proofs.LoopLaws.{read-none, read-next, read-whole}
@@ -15,6 +15,9 @@ Inv-loop bytes core₀ pending₀ stack₀ sums₀ margins₀ facts₀ before i�
 
 abbrev μ-loop : tie.MeasureT-loop
 μ-loop bytes core₀ pending₀ stack₀ sums₀ margins₀ facts₀ before i₀ core pending stack sums margins facts i = length bytes - i
+
+wide : (c : tie.Start Inv-loop μ-loop) → length (c .args .self .pending) ≡ 16
+wide c = sym (length-map (c .args .self .pending) (λ (x : ℕ). x)) ∙ c .good .0 .1 .1 .1 .0 .1 .0 .1
 
 loop-holds : tie.Need-loop-holds Inv-loop μ-loop
 loop-holds c = (omega arith, sym (read-none _))
