@@ -1,0 +1,18 @@
+-- `counting::count_target` meets its contract. Assumes nothing.
+use Rattle.model.specs.Machine.{oneTarget}
+use borrow.Author.Needs.{needs}
+use Rattle.counting.proofs.count_target.Statement.{statement}
+use Rattle.counting.proofs.count_target.Tie as tie
+
+add32-requires : tie.Need-add32-requires
+add32-requires c κs = search needs
+
+add16-requires : tie.Need-add16-requires
+add16-requires c κs = search needs
+
+returns : tie.Need-returns
+unfolding oneTarget
+returns c = cc
+
+pub count-target-spec : {M : Type 1} → statement M
+count-target-spec = tie.close (tie.spec add32-requires add16-requires returns)

@@ -1,0 +1,11 @@
+-- `reading::refuse` meets its contract. Assumes nothing.
+use Rattle.model.specs.Machine.{refusedWith}
+use Rattle.reading.proofs.refuse.Statement.{statement}
+use Rattle.reading.proofs.refuse.Tie as tie
+
+returns : tie.Need-returns
+unfolding refusedWith
+returns c = cc
+
+pub refuse-spec : {M : Type 1} → statement M
+refuse-spec = tie.close (tie.spec returns)
