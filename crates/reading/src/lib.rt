@@ -1,7 +1,7 @@
 // Where the reading of a study stands.
 ghost use mathlib.Core.Path.{_≡_};
 ghost use Prim.Native.Nat.{_+_, _-_, min};
-ghost use Rattle.model.specs.Machine.{core, begun, grown, taken, refusedWith, numberAfter, placeAfter};
+ghost use Rattle.model.specs.Machine.{core, begun, grown, refusedWith, numberAfter, placeAfter};
 use state::Core;
 use state::Reading;
 
@@ -43,20 +43,6 @@ pub fn grow(h: Reading) -> Reading
         phase: 0,
         have: one_more(h.have),
         place: numeric::add64(h.place, 1),
-        start: h.start,
-        number: 0,
-        at: 0,
-    }
-}
-
-// A record is taken, and the study goes on in a phase.
-pub fn take(h: Reading, phase: u8) -> Reading
-    ensures { λ r. ⌜ r ≡ taken h phase ⌝ }
-{
-    Reading {
-        phase: phase,
-        have: 0,
-        place: h.place,
         start: h.start,
         number: 0,
         at: 0,

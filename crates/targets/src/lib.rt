@@ -91,5 +91,5 @@ pub fn take_effect(
     let b = c.branch;
     let j = judged_of(b, p, facts);
     add_to_row(b, t, j.chance, sums, margins, facts);
-    scenarios::core_effect(c, t, j.judged)
+    counting::core_effect(c, t, j.judged)
 }

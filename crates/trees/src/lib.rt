@@ -66,7 +66,7 @@ pub fn take_leak(c: Core, p: &[u8; 16], stack: &mut [u64; 9]) -> Core
     let number = decoding::word_at_1(p);
     let frequency = decoding::long_at_5(p);
     put_tree(stack, 0, pack(frequency, 0));
-    scenarios::core_leak(c, number, frequency)
+    counting::core_leak(c, number, frequency)
 }
 
 fn one_less(x: u8) -> u8
@@ -92,7 +92,7 @@ pub fn take_branching(c: Core, p: &[u8; 16], stack: &mut [u64; 9]) -> Core
     let chance = decoding::word_at_1(p);
     let b = c.branch;
     branch_stack(stack, b.height, chance);
-    scenarios::core_branching(c)
+    counting::core_branching(c)
 }
 
 pub fn take_outcome(c: Core, p: &[u8; 16], stack: &[u64; 9]) -> Core
@@ -102,5 +102,5 @@ pub fn take_outcome(c: Core, p: &[u8; 16], stack: &[u64; 9]) -> Core
     let effects = decoding::half_at_2(p);
     let b = c.branch;
     let tree = next_tree(stack, b.height);
-    scenarios::core_outcome(c, tree, kind, effects)
+    counting::core_outcome(c, tree, kind, effects)
 }

@@ -1,4 +1,5 @@
 -- `counting::core_opening` meets its contract. Assumes nothing.
+use mathlib.Core.Path.{refl}
 use borrow.Author.Needs.{needs}
 use Rattle.counting.proofs.core_opening.Statement.{statement}
 use Rattle.counting.proofs.core_opening.Tie as tie
@@ -13,7 +14,7 @@ tally-study-requires : tie.Need-tally-study-requires
 tally-study-requires c κs = search needs
 
 returns : tie.Need-returns
-returns c = cc
+returns c = rw (c .before .before .before .take .ensures, c .before .before .count-record .ensures, c .tally-study .ensures) refl
 
 pub core-opening-spec : {M : Type 1} → statement M
 core-opening-spec =

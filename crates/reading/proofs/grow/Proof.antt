@@ -1,4 +1,5 @@
 -- `reading::grow` meets its contract. Assumes nothing.
+use mathlib.Core.Path.{refl}
 use Rattle.model.specs.Machine.{grown}
 use borrow.Author.Needs.{needs}
 use Rattle.reading.proofs.grow.Statement.{statement}
@@ -12,7 +13,7 @@ add64-requires c κs = search needs
 
 returns : tie.Need-returns
 unfolding grown
-returns c = cc
+returns c = rw (c .before .one-more .ensures, c .add64 .ensures) refl
 
 pub grow-spec : {M : Type 1} → statement M
 grow-spec = tie.close (tie.spec one-more-requires add64-requires returns)

@@ -1,4 +1,5 @@
 -- `reporting::report_row` meets its contract. Assumes nothing.
+use mathlib.Core.Path.{refl}
 use Rattle.model.specs.Machine.{rowReport}
 use borrow.Author.Needs.{needs}
 use Rattle.reporting.proofs.report_row.Statement.{statement}
@@ -15,7 +16,7 @@ marked-requires c κs = search needs
 
 returns : tie.Need-returns
 unfolding rowReport
-returns c = cc
+returns c = rw (c .before .grade-of-class .ensures, c .marked .ensures) refl
 
 pub report-row-spec : {M : Type 1} → statement M
 report-row-spec = tie.close (tie.spec cast-class grade-of-class-requires marked-requires returns)

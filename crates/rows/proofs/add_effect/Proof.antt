@@ -1,4 +1,5 @@
 -- `rows::add_effect` meets its contract. Assumes nothing.
+use mathlib.Core.Path.{refl}
 use Rattle.model.specs.Machine.{rowAfter}
 use borrow.Author.Needs.{needs}
 use Rattle.rows.proofs.add_effect.Statement.{statement}
@@ -24,7 +25,7 @@ mark-requires c κs = search needs
 
 returns : tie.Need-returns
 unfolding rowAfter
-returns c = cc
+returns c = rw (c .before .before .before .add64 .ensures, c .before .before .before .before .share .ensures, c .before .add32 .ensures, c .mark .ensures) refl
 
 pub add-effect-spec : {M : Type 1} → statement M
 add-effect-spec =

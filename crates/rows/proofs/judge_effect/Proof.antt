@@ -10,7 +10,7 @@ effect-requires : tie.Need-effect-requires
 effect-requires c κs = search needs
 
 returns : tie.Need-returns
-returns c = cc
+returns c = rw (← c .before .unpack-facts .ensures) (c .effect .ensures)
 
 pub judge-effect-spec : {M : Type 1} → statement M
 judge-effect-spec = tie.close (tie.spec unpack-facts-requires effect-requires returns)

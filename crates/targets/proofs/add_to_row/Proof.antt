@@ -47,7 +47,10 @@ element-write-facts c = search needs
 
 returns : tie.Need-returns
 unfolding store
-returns c = (lt-case _ _ _ _ (search needs) (cc), (lt-case _ _ _ _ (search needs) (cc), lt-case _ _ _ _ (search needs) (cc)))
+returns c =
+    let inside = c .before .before .before .before .if1 .taken in
+    let row = c .add-effect .ensures in
+    (lt-case _ _ _ _ inside (rw (← row) refl), (lt-case _ _ _ _ inside (rw (← row) refl), lt-case _ _ _ _ inside (rw (← row) refl)))
 
 returns-2 : tie.Need-returns-2
 unfolding store

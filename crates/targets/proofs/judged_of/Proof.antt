@@ -19,7 +19,11 @@ judge-effect-requires : tie.Need-judge-effect-requires
 judge-effect-requires c κs = search needs
 
 returns : tie.Need-returns
-returns c = cc
+returns c =
+    let target = c .before .before .before .before .half-at-1 .ensures in
+    let intensity = c .before .before .before .word-at-3 .ensures in
+    let duration = c .before .before .half-at-7 .ensures in
+    rw (← target, ← intensity, ← duration, ← c .before .fetch64 .ensures) (c .judge-effect .ensures)
 
 pub judged-of-spec : {M : Type 1} → statement M
 judged-of-spec =

@@ -16,7 +16,10 @@ core-target-requires : tie.Need-core-target-requires
 core-target-requires c κs = search needs
 
 returns : tie.Need-returns
-returns c = (cc, cc)
+returns c =
+    let known = c .before .before .before .before .before .facts .ensures in
+    let packed = c .before .before .pack-facts .ensures in
+    (c .core-target .ensures, rw (← known, ← packed) (c .before .put64 .ensures))
 
 pub take-target-spec : {M : Type 1} → statement M
 take-target-spec =

@@ -21,7 +21,11 @@ put-tree-requires-2 c κs = search needs
 
 returns : tie.Need-returns
 unfolding branchStack
-returns c = cc
+returns c =
+    let tree = c .before .before .before .before .before .before .next-tree .ensures in
+    let both = c .before .before .before .before .before .pack-branches .ensures in
+    let below = c .before .before .before .one-less .ensures in
+    rw (← tree, ← both .0, ← both .1, ← below, ← c .before .before .put-tree .ensures) (c .put-tree2 .ensures)
 
 pub branch-stack-spec : {M : Type 1} → statement M
 branch-stack-spec =

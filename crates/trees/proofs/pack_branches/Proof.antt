@@ -19,7 +19,9 @@ pack-requires-2 : tie.Need-pack-requires-2
 pack-requires-2 c κs = search needs
 
 returns : tie.Need-returns
-returns c = (cc, cc)
+returns c =
+    let both = c .before .before .split .ensures in
+    (rw (← both) (c .before .pack .ensures), rw (← both) (c .pack2 .ensures))
 
 pub pack-branches-spec : {M : Type 1} → statement M
 pack-branches-spec =

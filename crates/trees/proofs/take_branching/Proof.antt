@@ -13,7 +13,7 @@ core-branching-requires : tie.Need-core-branching-requires
 core-branching-requires c κs = search needs
 
 returns : tie.Need-returns
-returns c = (cc, cc)
+returns c = (c .core-branching .ensures, rw (← c .before .before .before .before .word-at-1 .ensures) (c .before .branch-stack .ensures))
 
 pub take-branching-spec : {M : Type 1} → statement M
 take-branching-spec =

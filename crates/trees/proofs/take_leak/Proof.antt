@@ -21,7 +21,11 @@ core-leak-requires c κs = search needs
 
 returns : tie.Need-returns
 unfolding leakStack
-returns c = (cc, cc)
+returns c =
+    let number = c .before .before .before .before .before .word-at-1 .ensures in
+    let frequency = c .before .before .before .before .long-at-5 .ensures in
+    let tree = c .before .before .pack .ensures in
+    (rw (← number, ← frequency) (c .core-leak .ensures), rw (← frequency, ← tree) (c .before .put-tree .ensures))
 
 pub take-leak-spec : {M : Type 1} → statement M
 take-leak-spec =

@@ -16,7 +16,11 @@ core-outcome-requires : tie.Need-core-outcome-requires
 core-outcome-requires c κs = search needs
 
 returns : tie.Need-returns
-returns c = cc
+returns c =
+    let tree = c .before .next-tree .ensures in
+    let effects = c .before .before .before .half-at-2 .ensures in
+    let kind = c .before .before .before .before .byte-at-1 .ensures in
+    rw (← tree, ← effects, ← kind) (c .core-outcome .ensures)
 
 pub take-outcome-spec : {M : Type 1} → statement M
 take-outcome-spec =
