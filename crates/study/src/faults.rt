@@ -231,7 +231,7 @@ fn own_branching(c: Core, p: &[u8; 16], stack: &[u64; 9]) -> u8
 {
     let chance = decoding::word_at_1(p);
     let b = c.branch;
-    let tree = taking::next_tree(stack, b.height);
+    let tree = trees::next_tree(stack, b.height);
     branching_fault((tree % 16) as u8, chance)
 }
 

@@ -43,8 +43,8 @@ impl Study {
             i = run.at;
         }
         let h = core.reading;
-        let number = steps::piece_number(before, bytes.len() as u64, h);
-        let place = steps::piece_place(h);
+        let number = reading::piece_number(before, bytes.len() as u64, h);
+        let place = reading::piece_place(h);
         Taken {
             study: Study {
                 core: core,

@@ -21,7 +21,7 @@ pub(crate) fn record_read(
     if n == 0 {
         return taking::accept(c, p, stack, sums, margins, facts);
     }
-    steps::core_reading(c, steps::refuse(c.reading, n))
+    reading::core_reading(c, reading::refuse(c.reading, n))
 }
 
 fn one_less(x: u8) -> u8
@@ -71,7 +71,7 @@ fn add_byte(
 {
     let h = c.reading;
     put_pending(p, h.have, b);
-    let grown = steps::core_reading(c, steps::grow(h));
+    let grown = reading::core_reading(c, reading::grow(h));
     end_record(grown, p, stack, sums, margins, facts)
 }
 
@@ -91,7 +91,7 @@ pub(crate) fn read_byte(
     if h.phase == 0 {
         if h.have == 0 {
             put_pending(p, 0, b);
-            return steps::core_reading(c, steps::begin(h, b));
+            return reading::core_reading(c, reading::begin(h, b));
         }
         return add_byte(c, b, p, stack, sums, margins, facts);
     }

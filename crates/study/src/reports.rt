@@ -36,7 +36,7 @@ fn count_marked(facts: &[u64; 256], n: u16) -> usize
     let mut count: usize = 0;
     let mut t: u16 = 0;
     while t < n {
-        if steps::marked(facts[t as usize]) {
+        if reporting::marked(facts[t as usize]) {
             count += 1;
         }
         t += 1;
@@ -53,7 +53,7 @@ fn fill_marked(facts: &[u64; 256], n: u16, list: &mut [u16])
     let mut count: usize = 0;
     let mut t: u16 = 0;
     while t < n {
-        if steps::marked(facts[t as usize]) {
+        if reporting::marked(facts[t as usize]) {
             list[count] = t;
             count += 1;
         }
@@ -67,7 +67,7 @@ impl Study {
         ensures { λ r. ⌜ r ≡ totalsIn (self .core) ⌝ }
     {
         let core = self.core;
-        steps::report_totals(core)
+        reporting::report_totals(core)
     }
 
     // One target: sum, margin, and its grade or whether it is listed.
@@ -78,7 +78,7 @@ impl Study {
         let h = core.reading;
         let k = core.counts;
         if h.phase == 2 {
-            return steps::refused_target(h.number, h.at);
+            return reporting::refused_target(h.number, h.at);
         }
         if h.phase == 1 {
             if t < least(k.targets, 256) {
@@ -88,11 +88,11 @@ impl Study {
                     margin: self.margins[i],
                     facts: self.facts[i],
                 };
-                return steps::report_row(h.place, row);
+                return reporting::report_row(h.place, row);
             }
-            return steps::refused_target(9, h.place);
+            return reporting::refused_target(9, h.place);
         }
-        steps::refused_target(8, h.place)
+        reporting::refused_target(8, h.place)
     }
 
     // The domino list, into the front of a lent list; the rest of it stays, and a refused call writes none.

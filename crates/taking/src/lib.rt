@@ -1,23 +1,18 @@
-// A record without fault is taken: what it does to a study's arrays (the machine of the crate model).
-mod arrays;
-mod targets;
-mod trees;
-
-pub use targets::take_effect;
-pub use targets::take_target;
-pub use trees::next_tree;
-pub use trees::take_branching;
-pub use trees::take_leak;
-pub use trees::take_outcome;
+// A record without fault is taken, whatever its kind (the machine of the crate model).
 ghost use mathlib.Core.Path.{_≡_};
 ghost use Rattle.model.specs.Verdict.{decode, field};
 ghost use Rattle.model.specs.Machine.{state, core, taken, oneRecord, studyTally, accepted};
 use state::Core;
+use targets::take_effect;
+use targets::take_target;
+use trees::take_branching;
+use trees::take_leak;
+use trees::take_outcome;
 
 pub fn take_opening(c: Core, p: &[u8; 16]) -> Core
     ensures { λ r. ⌜ r ≡ core (taken (c .reading) 0) (oneRecord (c .counts)) (c .branch) (studyTally (c .tally) (field (now (p .entry)) 1 4)) ⌝ }
 {
-    steps::core_opening(c, decoding::word_at_1(p))
+    counting::core_opening(c, decoding::word_at_1(p))
 }
 
 // The record in the pending bytes, whatever its kind.
@@ -50,5 +45,5 @@ pub fn accept(
     if kind == 1 {
         return take_opening(c, p);
     }
-    steps::core_closing(c)
+    counting::core_closing(c)
 }

@@ -10,7 +10,7 @@ core-opening-requires : tie.Need-core-opening-requires
 core-opening-requires c κs = search needs
 
 returns : tie.Need-returns
-returns c = cc
+returns c = rw (← c .before .word-at-1 .ensures) (c .core-opening .ensures)
 
 pub take-opening-spec : {M : Type 1} → statement M
 take-opening-spec = tie.close (tie.spec word-at-1-requires core-opening-requires returns)

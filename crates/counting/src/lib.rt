@@ -1,0 +1,125 @@
+// All of a study but its arrays, after a record of each kind (the machine of the crate model).
+mod branches;
+mod counts;
+mod tallies;
+
+ghost use mathlib.Core.Path.{_≡_};
+ghost use Rattle.model.specs.Machine.{core, taken, oneRecord, oneTarget, oneLeak, leakBranch, branchedBranch, outcomeBranch, effectBranch, studyTally, outcomeTally, effectTally, frequencyOf};
+use branches::enter_branching;
+use branches::enter_effect;
+use branches::enter_leak;
+use branches::enter_outcome;
+use counts::count_leak;
+use counts::count_record;
+use counts::count_target;
+use counts::take;
+use state::Core;
+use tallies::tally_effect;
+use tallies::tally_outcome;
+use tallies::tally_study;
+
+pub fn core_opening(c: Core, number: u32) -> Core
+    ensures { λ r. ⌜ r ≡ core (taken (c .reading) 0) (oneRecord (c .counts)) (c .branch) (studyTally (c .tally) number) ⌝ }
+{
+    let h = take(c.reading, 0);
+    let k = count_record(c.counts);
+    let b = c.branch;
+    let y = tally_study(c.tally, number);
+    Core {
+        reading: h,
+        counts: k,
+        branch: b,
+        tally: y,
+    }
+}
+
+pub fn core_target(c: Core) -> Core
+    ensures { λ r. ⌜ r ≡ core (taken (c .reading) 0) (oneTarget (c .counts)) (c .branch) (c .tally) ⌝ }
+{
+    let h = take(c.reading, 0);
+    let k = count_target(c.counts);
+    let b = c.branch;
+    let y = c.tally;
+    Core {
+        reading: h,
+        counts: k,
+        branch: b,
+        tally: y,
+    }
+}
+
+pub fn core_leak(c: Core, number: u32, frequency: u64) -> Core
+    ensures { λ r. ⌜ r ≡ core (taken (c .reading) 0) (oneLeak (c .counts) number frequency) (leakBranch (c .branch) frequency) (c .tally) ⌝ }
+{
+    let h = take(c.reading, 0);
+    let k = count_leak(c.counts, number, frequency);
+    let b = enter_leak(c.branch, frequency);
+    let y = c.tally;
+    Core {
+        reading: h,
+        counts: k,
+        branch: b,
+        tally: y,
+    }
+}
+
+pub fn core_branching(c: Core) -> Core
+    ensures { λ r. ⌜ r ≡ core (taken (c .reading) 0) (oneRecord (c .counts)) (branchedBranch (c .branch)) (c .tally) ⌝ }
+{
+    let h = take(c.reading, 0);
+    let k = count_record(c.counts);
+    let b = enter_branching(c.branch);
+    let y = c.tally;
+    Core {
+        reading: h,
+        counts: k,
+        branch: b,
+        tally: y,
+    }
+}
+
+// The outcome takes the next tree, as it is packed.
+pub fn core_outcome(c: Core, tree: u64, kind: u8, effects: u16) -> Core
+    ensures { λ r. ⌜ r ≡ core (taken (c .reading) 0) (oneRecord (c .counts)) (outcomeBranch (c .branch) tree kind effects) (outcomeTally (c .tally) kind (frequencyOf tree)) ⌝ }
+{
+    let h = take(c.reading, 0);
+    let k = count_record(c.counts);
+    let b = enter_outcome(c.branch, tree, kind, effects);
+    let y = tally_outcome(c.tally, kind, tree / 16);
+    Core {
+        reading: h,
+        counts: k,
+        branch: b,
+        tally: y,
+    }
+}
+
+pub fn core_effect(c: Core, target: u16, judged: bool) -> Core
+    ensures { λ r. ⌜ r ≡ core (taken (c .reading) 0) (oneRecord (c .counts)) (effectBranch (c .branch) target) (effectTally (c .tally) judged) ⌝ }
+{
+    let h = take(c.reading, 0);
+    let k = count_record(c.counts);
+    let b = enter_effect(c.branch, target);
+    let y = tally_effect(c.tally, judged);
+    Core {
+        reading: h,
+        counts: k,
+        branch: b,
+        tally: y,
+    }
+}
+
+pub fn core_closing(c: Core) -> Core
+    ensures { λ r. ⌜ r ≡ core (taken (c .reading) 1) (oneRecord (c .counts)) (c .branch) (c .tally) ⌝ }
+{
+    let h = take(c.reading, 1);
+    let k = count_record(c.counts);
+    let b = c.branch;
+    let y = c.tally;
+    Core {
+        reading: h,
+        counts: k,
+        branch: b,
+        tally: y,
+    }
+}

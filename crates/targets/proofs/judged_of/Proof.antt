@@ -1,0 +1,37 @@
+-- `targets::judged_of` meets its contract. Assumes nothing.
+use borrow.Author.Needs.{needs}
+use Rattle.targets.proofs.judged_of.Statement.{statement}
+use Rattle.targets.proofs.judged_of.Tie as tie
+
+half-at-1-requires : tie.Need-half-at-1-requires
+half-at-1-requires c κs = search needs
+
+word-at-3-requires : tie.Need-word-at-3-requires
+word-at-3-requires c κs = search needs
+
+half-at-7-requires : tie.Need-half-at-7-requires
+half-at-7-requires c κs = search needs
+
+fetch64-requires : tie.Need-fetch64-requires
+fetch64-requires c κs = search needs
+
+judge-effect-requires : tie.Need-judge-effect-requires
+judge-effect-requires c κs = search needs
+
+returns : tie.Need-returns
+returns c =
+    let target = c .before .before .before .before .half-at-1 .ensures in
+    let intensity = c .before .before .before .word-at-3 .ensures in
+    let duration = c .before .before .half-at-7 .ensures in
+    rw (← target, ← intensity, ← duration, ← c .before .fetch64 .ensures) (c .judge-effect .ensures)
+
+pub judged-of-spec : {M : Type 1} → statement M
+judged-of-spec =
+    tie.close
+    (tie.spec
+    half-at-1-requires
+    word-at-3-requires
+    half-at-7-requires
+    fetch64-requires
+    judge-effect-requires
+    returns)

@@ -1,0 +1,39 @@
+-- `trees::take_leak` meets its contract. Assumes nothing.
+use Rattle.model.specs.Machine.{leakStack}
+use borrow.Author.Needs.{needs}
+use Rattle.trees.proofs.take_leak.Statement.{statement}
+use Rattle.trees.proofs.take_leak.Tie as tie
+
+word-at-1-requires : tie.Need-word-at-1-requires
+word-at-1-requires c κs = search needs
+
+long-at-5-requires : tie.Need-long-at-5-requires
+long-at-5-requires c κs = search needs
+
+pack-requires : tie.Need-pack-requires
+pack-requires c κs = search needs
+
+put-tree-requires : tie.Need-put-tree-requires
+put-tree-requires c κs = search needs
+
+core-leak-requires : tie.Need-core-leak-requires
+core-leak-requires c κs = search needs
+
+returns : tie.Need-returns
+unfolding leakStack
+returns c =
+    let number = c .before .before .before .before .before .word-at-1 .ensures in
+    let frequency = c .before .before .before .before .long-at-5 .ensures in
+    let tree = c .before .before .pack .ensures in
+    (rw (← number, ← frequency) (c .core-leak .ensures), rw (← frequency, ← tree) (c .before .put-tree .ensures))
+
+pub take-leak-spec : {M : Type 1} → statement M
+take-leak-spec =
+    tie.close
+    (tie.spec
+    word-at-1-requires
+    long-at-5-requires
+    pack-requires
+    put-tree-requires
+    core-leak-requires
+    returns)
