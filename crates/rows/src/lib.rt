@@ -28,11 +28,11 @@ fn unpack_facts(x: u64) -> Target
     }
 }
 
-// The chance of an effect on the target with these facts, in the outcome at hand, and whether a rule judged it.
-pub fn judge_effect(b: Branch, facts: u64, intensity: u32, duration: u16) -> Judged
-    ensures { λ r. ⌜ r ≡ effectOn seconds (unpackedFacts facts) (b .kind) intensity duration ⌝ }
+// The chance that an outcome of a kind brings to the target with these facts, and whether a rule judged it.
+pub fn judge_effect(kind: u8, facts: u64, intensity: u32, duration: u16) -> Judged
+    ensures { λ r. ⌜ r ≡ effectOn seconds (unpackedFacts facts) kind intensity duration ⌝ }
 {
-    vulnerability::effect(unpack_facts(facts), b.kind, intensity, duration)
+    vulnerability::effect(unpack_facts(facts), kind, intensity, duration)
 }
 
 // Equipment is marked by an effect that lists it.

@@ -1,5 +1,8 @@
 // The fault of the record in the pending bytes (document 01, "Numbers the desk says no with"); 0 is none.
 ghost use mathlib.Core.Path.{_≡_};
+ghost use mathlib.Core.List.{List};
+ghost use Prim.Native.Nat.{ℕ};
+ghost use lib.ListN.{getD};
 ghost use Rattle.numeric.specs.Choice.{ifEq};
 ghost use Rattle.model.specs.Faults.{role, orderFault, targetFault, leakFault, branchingFault, outcomeFault, namingFault, effectFault, closingFault};
 ghost use Rattle.model.specs.Verdict.{decode, field, factsAt};
@@ -298,6 +301,22 @@ pub(crate) fn fault(c: Core, p: &[u8; 16], stack: &[u64; 9]) -> u8
             return 5;
         }
         return own_fault(c, p, stack);
+    }
+    2
+}
+
+// The same for an effect alone.
+pub(crate) fn effect_record_fault(c: Core, p: &[u8; 16]) -> u8
+    requires { ⌜ getD (now p) 0 0 ≡ 6 ⌝ }
+    ensures { λ r. ⌜ ((k : List ℕ) → r ≡ faultIn c k (decode (now (p .entry)))) ⌝ }
+{
+    let k = c.counts;
+    let b = c.branch;
+    if order_fault(k.records, b.left, b.height, k.scenarios, 6) == 0 {
+        if Study::MOST_RECORDS <= k.records {
+            return 5;
+        }
+        return own_effect(c, p);
     }
     2
 }

@@ -7,6 +7,7 @@ ghost use Prim.Native.Nat.{ℕ, _+_, _-_, _<_, _≤_};
 ghost use lib.ListN.{length, getD, take, drop};
 ghost use Rattle.model.specs.Machine.{core, reading, state, readAll};
 ghost use Rattle.study.specs.Spans.{Between, Whole, Span, EffectHere};
+use crate::faults::effect_record_fault;
 use crate::records::read_byte;
 use crate::records::record_read;
 use state::Core;
@@ -74,7 +75,7 @@ fn begun_whole(c: Core, n: usize) -> Core
         number: 0,
         at: 0,
     };
-    steps::core_reading(c, begun)
+    reading::core_reading(c, begun)
 }
 
 // Reads one byte or one whole record.
@@ -99,7 +100,70 @@ fn read_span(
     record_read(begun_whole(c, n), p, stack, sums, margins, facts)
 }
 
-// Reads at least one byte.
+// Whether the bytes begin with a whole effect.
+fn effect_here(h: Reading, bytes: &[u8]) -> bool
+    ensures { λ r. ⌜ (r ≡ true → EffectHere h (now (bytes .entry))) ⌝ }
+{
+    if between(h) {
+        if 9 <= bytes.len() {
+            if bytes[0] == 6 {
+                return true;
+            }
+        }
+    }
+    false
+}
+
+// Reads a whole effect. It does what `record_read` does, by parts that a loop over effects keeps at hand.
+fn read_effect(
+    c: Core,
+    bytes: &[u8],
+    p: &mut [u8; 16],
+    sums: &mut [u64; 256],
+    margins: &mut [u32; 256],
+    facts: &mut [u64; 256],
+) -> Core
+    requires { ⌜ (length (now p) ≡ 16) × Between (c .reading) × (length (now bytes) ≡ 9) × (getD (now bytes) 0 0 ≡ 6) ⌝ }
+    ensures { λ r. ⌜ ((k : List ℕ) → state r (now (p .exit)) k (now (sums .exit)) (now (margins .exit)) (now (facts .exit)) ≡ readAll (state c (now (p .entry)) k (now (sums .entry)) (now (margins .entry)) (now (facts .entry))) (now (bytes .entry))) ⌝ }
+{
+    fill(p, bytes);
+    let d = begun_whole(c, 9);
+    let n = effect_record_fault(d, p);
+    if n == 0 {
+        let b = d.branch;
+        let t = decoding::half_at_1(p);
+        let j = targets::judged_of(b.kind, p, facts);
+        targets::add_to_row(b, t, j.chance, sums, margins, facts);
+        return counting::core_effect(d, t, j.judged);
+    }
+    reading::core_reading(d, reading::refuse(d.reading, n))
+}
+
+// Reads the whole effects from a place on.
+fn read_effects(
+    c: Core,
+    bytes: &[u8],
+    from: usize,
+    p: &mut [u8; 16],
+    sums: &mut [u64; 256],
+    margins: &mut [u32; 256],
+    facts: &mut [u64; 256],
+) -> Run
+    requires { ⌜ (from ≤ length (now bytes)) × (length (now p) ≡ 16) ⌝ }
+    ensures { λ r. ⌜ (from ≤ r .at) × (r .at ≤ length (now (bytes .entry))) ⌝ }
+    ensures { λ r. ⌜ ((k : List ℕ) → state (r .core) (now (p .exit)) k (now (sums .exit)) (now (margins .exit)) (now (facts .exit)) ≡ readAll (state c (now (p .entry)) k (now (sums .entry)) (now (margins .entry)) (now (facts .entry))) (take (r .at - from) (drop from (now (bytes .entry))))) ⌝ }
+{
+    let mut core = c;
+    let mut at = from;
+    while effect_here(core.reading, &bytes[at..]) {
+        let next = at + 9;
+        core = read_effect(core, &bytes[at..next], p, sums, margins, facts);
+        at = next;
+    }
+    Run { core: core, at: at }
+}
+
+// Reads at least one byte: the whole effects from a place on, and then a byte or a record.
 pub(crate) fn read_on(
     c: Core,
     bytes: &[u8],
@@ -114,10 +178,16 @@ pub(crate) fn read_on(
     ensures { λ r. ⌜ (from < r .at) × (r .at ≤ length (now (bytes .entry))) ⌝ }
     ensures { λ r. ⌜ state (r .core) (now (p .exit)) (now (stack .exit)) (now (sums .exit)) (now (margins .exit)) (now (facts .exit)) ≡ readAll (state c (now (p .entry)) (now (stack .entry)) (now (sums .entry)) (now (margins .entry)) (now (facts .entry))) (take (r .at - from) (drop from (now (bytes .entry)))) ⌝ }
 {
-    let next = from + span(c.reading, &bytes[from..]);
-    let core = read_span(c, &bytes[from..next], p, stack, sums, margins, facts);
-    Run {
-        core: core,
-        at: next,
+    let run = read_effects(c, bytes, from, p, sums, margins, facts);
+    let at = run.at;
+    let core = run.core;
+    if at < bytes.len() {
+        let next = at + span(core.reading, &bytes[at..]);
+        let after = read_span(core, &bytes[at..next], p, stack, sums, margins, facts);
+        return Run {
+            core: after,
+            at: next,
+        };
     }
+    run
 }

@@ -39,7 +39,7 @@ pub fn take_target(c: Core, p: &[u8; 16], facts: &mut [u64; 256]) -> Core
 }
 
 // An effect of a chance on the target's row.
-fn add_to_row(
+pub fn add_to_row(
     b: Branch,
     t: u16,
     chance: u32,
@@ -66,13 +66,13 @@ fn add_to_row(
 }
 
 // The judged chance of the effect in the pending bytes.
-fn judged_of(b: Branch, p: &[u8; 16], facts: &[u64; 256]) -> Judged
-    ensures { λ r. ⌜ r ≡ judgedIn (now (facts .entry)) b (now (p .entry)) ⌝ }
+pub fn judged_of(kind: u8, p: &[u8; 16], facts: &[u64; 256]) -> Judged
+    ensures { λ r. ⌜ r ≡ judgedIn (now (facts .entry)) kind (now (p .entry)) ⌝ }
 {
     let t = decoding::half_at_1(p);
     let intensity = decoding::word_at_3(p);
     let duration = decoding::half_at_7(p);
-    rows::judge_effect(b, fetch64(facts, t), intensity, duration)
+    rows::judge_effect(kind, fetch64(facts, t), intensity, duration)
 }
 
 pub fn take_effect(
@@ -82,14 +82,14 @@ pub fn take_effect(
     margins: &mut [u32; 256],
     facts: &mut [u64; 256],
 ) -> Core
-    ensures { λ r. ⌜ r ≡ core (taken (c .reading) 0) (oneRecord (c .counts)) (effectBranch (c .branch) (field (now (p .entry)) 1 2)) (effectTally (c .tally) (judgedIn (now (facts .entry)) (c .branch) (now (p .entry)) .judged)) ⌝ }
-    ensures { λ r. ⌜ now (sums .exit) ≡ store 256 (now (sums .entry)) (field (now (p .entry)) 1 2) (rowAfter (rowOf (now (sums .entry)) (now (margins .entry)) (now (facts .entry)) (field (now (p .entry)) 1 2)) (c .branch) (judgedIn (now (facts .entry)) (c .branch) (now (p .entry)) .chance) .sum) ⌝ }
-    ensures { λ r. ⌜ now (margins .exit) ≡ store 256 (now (margins .entry)) (field (now (p .entry)) 1 2) (rowAfter (rowOf (now (sums .entry)) (now (margins .entry)) (now (facts .entry)) (field (now (p .entry)) 1 2)) (c .branch) (judgedIn (now (facts .entry)) (c .branch) (now (p .entry)) .chance) .margin) ⌝ }
-    ensures { λ r. ⌜ now (facts .exit) ≡ store 256 (now (facts .entry)) (field (now (p .entry)) 1 2) (rowAfter (rowOf (now (sums .entry)) (now (margins .entry)) (now (facts .entry)) (field (now (p .entry)) 1 2)) (c .branch) (judgedIn (now (facts .entry)) (c .branch) (now (p .entry)) .chance) .facts) ⌝ }
+    ensures { λ r. ⌜ r ≡ core (taken (c .reading) 0) (oneRecord (c .counts)) (effectBranch (c .branch) (field (now (p .entry)) 1 2)) (effectTally (c .tally) (judgedIn (now (facts .entry)) (c .branch .kind) (now (p .entry)) .judged)) ⌝ }
+    ensures { λ r. ⌜ now (sums .exit) ≡ store 256 (now (sums .entry)) (field (now (p .entry)) 1 2) (rowAfter (rowOf (now (sums .entry)) (now (margins .entry)) (now (facts .entry)) (field (now (p .entry)) 1 2)) (c .branch) (judgedIn (now (facts .entry)) (c .branch .kind) (now (p .entry)) .chance) .sum) ⌝ }
+    ensures { λ r. ⌜ now (margins .exit) ≡ store 256 (now (margins .entry)) (field (now (p .entry)) 1 2) (rowAfter (rowOf (now (sums .entry)) (now (margins .entry)) (now (facts .entry)) (field (now (p .entry)) 1 2)) (c .branch) (judgedIn (now (facts .entry)) (c .branch .kind) (now (p .entry)) .chance) .margin) ⌝ }
+    ensures { λ r. ⌜ now (facts .exit) ≡ store 256 (now (facts .entry)) (field (now (p .entry)) 1 2) (rowAfter (rowOf (now (sums .entry)) (now (margins .entry)) (now (facts .entry)) (field (now (p .entry)) 1 2)) (c .branch) (judgedIn (now (facts .entry)) (c .branch .kind) (now (p .entry)) .chance) .facts) ⌝ }
 {
     let t = decoding::half_at_1(p);
     let b = c.branch;
-    let j = judged_of(b, p, facts);
+    let j = judged_of(b.kind, p, facts);
     add_to_row(b, t, j.chance, sums, margins, facts);
     counting::core_effect(c, t, j.judged)
 }

@@ -1,44 +1,46 @@
 -- `study::Study::piece` meets its contract: after i bytes the locals are the machine after the first i bytes. Assumes nothing.
-use mathlib.Core.Path.{_≡_, sym, ap, _∙_}
+use mathlib.Core.Path.{_≡_, sym, _∙_}
 use Prim.Native.Nat.{ℕ, _-_, _≤_}
 use native.Mathlib.Omega.{arith}
-use lib.ListN.{length, take, length-map}
+use lib.ListN.{length, take, drop, length-map}
 use borrow.Author.Needs.{needs}
 use Rattle.model.specs.Machine.{state, readAll}
 use Rattle.study.proofs.LoopLaws.{read-none, read-next, read-whole}
+use Rattle.study.proofs.SpanLaws.{stays-wide}
 use Rattle.study.proofs.Study.piece.Statement.{statement}
 use Rattle.study.proofs.Study.piece.Tie as tie
 
 abbrev Inv-loop : tie.InvT-loop
 Inv-loop bytes core₀ pending₀ stack₀ sums₀ margins₀ facts₀ before i₀ core pending stack sums margins facts i =
-    (i ≤ length bytes) × (state core pending stack sums margins facts ≡ readAll (state core₀ pending₀ stack₀ sums₀ margins₀ facts₀) (take i bytes))
+    (i ≤ length bytes) × (length pending ≡ 16)
+    × (state core pending stack sums margins facts ≡ readAll (state core₀ pending₀ stack₀ sums₀ margins₀ facts₀) (take i bytes))
 
 abbrev μ-loop : tie.MeasureT-loop
 μ-loop bytes core₀ pending₀ stack₀ sums₀ margins₀ facts₀ before i₀ core pending stack sums margins facts i = length bytes - i
 
+-- the study's array of pending bytes has sixteen, as its type says
 wide : (c : tie.Start Inv-loop μ-loop) → length (c .args .self .pending) ≡ 16
 wide c = sym (length-map (c .args .self .pending) (λ (x : ℕ). x)) ∙ c .good .0 .1 .1 .1 .0 .1 .0 .1
 
 loop-holds : tie.Need-loop-holds Inv-loop μ-loop
-loop-holds c = (omega arith, sym (read-none _))
+loop-holds c = (omega arith, wide (c .before .before .before .before .before .before .before), sym (read-none _))
 
-shared-slice-read-read-byte : tie.Need-shared-slice-read-read-byte Inv-loop μ-loop
-shared-slice-read-read-byte c = search needs
-
-read-byte-requires : tie.Need-read-byte-requires Inv-loop μ-loop
-read-byte-requires c κs = search needs
-
-add-i : tie.Need-add-i Inv-loop μ-loop
-add-i c = omega (arith, c .before .before .before .before .before .before .before .loop-test .taken, c .before .before .before .before .before .before .before .before .before .before .before .before .before .before .before .before .good)
+read-on-requires : tie.Need-read-on-requires Inv-loop μ-loop
+read-on-requires c κs = (c .before .before .before .before .before .loop-test .taken, c .before .before .before .before .before .before .loop .inv .1)
 
 loop-less : tie.Need-loop-less Inv-loop μ-loop
-loop-less c = search needs
+loop-less c = omega (arith, c .before .read-on .ensures .0)
 
 loop-again : tie.Need-loop-again Inv-loop μ-loop
 loop-again c =
     let v = c .before .before .before .before .before .before .before .before .loop in
-    let h = c .before .before .before .before .before .before .before .loop-test .taken in
-    (omega arith, read-next _ _ _ (c .before .before .before .before .before .before .before .before .before .before .before .before .before .before .before .before .args .bytes .now) (v .i) (v .inv .1) (c .read-byte .ensures) h)
+    let l = c .before .before .before .before .before .before .before .before .before .before .before .before .before .before .before .before .args .bytes .now in
+    let r = c .before .read-on in
+    let n = r .result .at in (
+      r .ensures .0 .1,
+      stays-wide _ _ (take (n - v .i) (drop (v .i) l)) (r .ensures .1) (v .inv .1),
+      read-next _ _ _ l (v .i) n (omega (arith, r .ensures .0)) (v .inv .2) (r .ensures .1),
+    )
 
 piece-number-requires : tie.Need-piece-number-requires Inv-loop μ-loop
 piece-number-requires c κs = search needs
@@ -49,7 +51,7 @@ piece-place-requires c κs = search needs
 returns : tie.Need-returns Inv-loop μ-loop
 returns c =
     let v = c .before .before .before .before .loop in
-    let e = read-whole _ _ (c .before .before .before .before .before .before .before .before .before .before .before .before .args .bytes .now) (v .i) (v .inv .1) (c .before .before .before .loop-test .left) in
+    let e = read-whole _ _ (c .before .before .before .before .before .before .before .before .before .before .before .before .args .bytes .now) (v .i) (v .inv .2) (c .before .before .before .loop-test .left) in
     (e, (rw (← e) (c .before .piece-number .ensures), rw (← e) (c .piece-place .ensures)))
 
 pub piece-spec : {M : Type 1} → statement M
@@ -59,9 +61,7 @@ piece-spec =
     Inv-loop
     μ-loop
     loop-holds
-    shared-slice-read-read-byte
-    read-byte-requires
-    add-i
+    read-on-requires
     loop-less
     loop-again
     piece-number-requires
