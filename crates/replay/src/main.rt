@@ -43,72 +43,58 @@ fn stop_failed(study: Study, input: Input) -> Replayed {
     stop(study, input)
 }
 
-fn stop_bad(study: Study, input: Input, out: &mut [u8]) -> Replayed {
-    answers::bad_call(out);
+fn stop_bad(study: Study, input: Input) -> Replayed {
+    line::text(b"bad call\n");
     stop(study, input)
 }
 
 // The piece is the first n bytes of the list.
-fn read_piece(study: Study, input: Input, n: usize, bytes: &[u8], out: &mut [u8]) -> Replayed {
+fn read_piece(study: Study, input: Input, n: usize, bytes: &[u8]) -> Replayed {
     if n <= bytes.len() {
-        let after = answers::piece(study, &bytes[..n], out);
+        let after = answers::piece(study, &bytes[..n]);
         return go_on(after, input);
     }
-    stop_bad(study, input, out)
+    stop_bad(study, input)
 }
 
-fn piece(
-    study: Study,
-    input: Input,
-    n: usize,
-    buffer: &mut [u8],
-    bytes: &mut [u8],
-    out: &mut [u8],
-) -> Replayed {
+fn piece(study: Study, input: Input, n: usize, buffer: &mut [u8], bytes: &mut [u8]) -> Replayed {
     match input::fill_front(input, buffer, n, bytes) {
-        Front::End => stop_bad(study, input, out),
+        Front::End => stop_bad(study, input),
         Front::Failed => stop_failed(study, input),
-        Front::Filled(rest) => read_piece(study, rest, n, bytes, out),
+        Front::Filled(rest) => read_piece(study, rest, n, bytes),
     }
 }
 
-fn target(study: Study, input: Input, t: u16, out: &mut [u8]) -> Replayed {
-    answers::target(study, t, out);
+fn target(study: Study, input: Input, t: u16) -> Replayed {
+    answers::target(study, t);
     go_on(study, input)
 }
 
-fn domino(study: Study, input: Input, n: usize, out: &mut [u8]) -> Replayed {
-    if answers::domino(study, n, out) {
+fn domino(study: Study, input: Input, n: usize) -> Replayed {
+    if answers::domino(study, n) {
         return go_on(study, input);
     }
-    stop_bad(study, input, out)
+    stop_bad(study, input)
 }
 
-fn totals(study: Study, input: Input, out: &mut [u8]) -> Replayed {
-    answers::totals(study, out);
+fn totals(study: Study, input: Input) -> Replayed {
+    answers::totals(study);
     go_on(study, input)
 }
 
 // A call that has a number.
-fn numbered(
-    call: u8,
-    study: Study,
-    input: Input,
-    buffer: &mut [u8],
-    bytes: &mut [u8],
-    out: &mut [u8],
-) -> Replayed {
+fn numbered(call: u8, study: Study, input: Input, buffer: &mut [u8], bytes: &mut [u8]) -> Replayed {
     match input::next_number(input, buffer) {
-        Number::End => stop_bad(study, input, out),
+        Number::End => stop_bad(study, input),
         Number::Failed => stop_failed(study, input),
         Number::Is(n, rest) => {
             if call == b'p' {
-                return piece(study, rest, n as usize, buffer, bytes, out);
+                return piece(study, rest, n as usize, buffer, bytes);
             }
             if call == b'g' {
-                return target(study, rest, n, out);
+                return target(study, rest, n);
             }
-            domino(study, rest, n as usize, out)
+            domino(study, rest, n as usize)
         }
     }
 }
@@ -117,30 +103,24 @@ fn is_numbered(call: u8) -> bool {
     call == b'p' || call == b'g' || call == b'd'
 }
 
-fn next_call(
-    study: Study,
-    input: Input,
-    buffer: &mut [u8],
-    bytes: &mut [u8],
-    out: &mut [u8],
-) -> Replayed {
+fn next_call(study: Study, input: Input, buffer: &mut [u8], bytes: &mut [u8]) -> Replayed {
     match input::next_byte(input, buffer) {
         Next::End => stop(study, input),
         Next::Failed => stop_failed(study, input),
         Next::Byte(call, rest) => {
             if call == b't' {
-                return totals(study, rest, out);
+                return totals(study, rest);
             }
             if is_numbered(call) {
-                return numbered(call, study, rest, buffer, bytes, out);
+                return numbered(call, study, rest, buffer, bytes);
             }
-            stop_bad(study, rest, out)
+            stop_bad(study, rest)
         }
     }
 }
 
 // A proved loop has to end, and nothing says that a list does: the turns are counted down, from a number that no run uses up.
-fn replay(fd: i32, buffer: &mut [u8], bytes: &mut [u8], out: &mut [u8]) {
+fn replay(fd: i32, buffer: &mut [u8], bytes: &mut [u8]) {
     let mut t = go_on(
         Study::fresh(),
         Input {
@@ -153,7 +133,7 @@ fn replay(fd: i32, buffer: &mut [u8], bytes: &mut [u8], out: &mut [u8]) {
     while turns > 0 && t.more {
         let study = t.study;
         let input = t.input;
-        t = next_call(study, input, buffer, bytes, out);
+        t = next_call(study, input, buffer, bytes);
         turns -= 1;
     }
 }
@@ -162,15 +142,13 @@ fn replay(fd: i32, buffer: &mut [u8], bytes: &mut [u8], out: &mut [u8]) {
 fn replay_list(fd: i32) {
     let mut buffer = io::large_buffer();
     let mut bytes = io::large_buffer();
-    let mut out = io::buffer();
-    replay(fd, &mut buffer, &mut bytes, &mut out);
+    replay(fd, &mut buffer, &mut bytes);
 }
 
 fn title(name: &[u8]) {
-    let mut out = io::buffer();
-    let at = line::text(&mut out, 0, b"list ");
-    let next = line::text(&mut out, at, name);
-    line::end(&mut out, next);
+    line::text(b"list ");
+    line::text(name);
+    line::end();
 }
 
 // The list in the file that argument i names.

@@ -14,17 +14,11 @@ piece-requires c κs = search needs
 go-on-requires : tie.Need-go-on-requires
 go-on-requires c κs = search needs
 
-same-length : tie.Need-same-length
-same-length c = search needs
-
 returns : tie.Need-returns
 returns c = search needs
 
 stop-bad-requires : tie.Need-stop-bad-requires
 stop-bad-requires c κs = search needs
-
-same-length-2 : tie.Need-same-length-2
-same-length-2 c = search needs
 
 returns-2 : tie.Need-returns-2
 returns-2 c = search needs
@@ -36,8 +30,6 @@ read-piece-spec =
     slice-aggregate-piece
     piece-requires
     go-on-requires
-    same-length
     returns
     stop-bad-requires
-    same-length-2
     returns-2)

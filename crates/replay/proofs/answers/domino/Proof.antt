@@ -17,9 +17,6 @@ slice-aggregate-domino-line c = sym (length-take-le _ _ (search needs))
 domino-line-requires : tie.Need-domino-line-requires
 domino-line-requires c κs = search needs
 
-same-length : tie.Need-same-length
-same-length c = search needs
-
 returns-2 : tie.Need-returns-2
 returns-2 c = search needs
 
@@ -31,5 +28,4 @@ domino-spec =
     array-borrow-prefix-lent
     slice-aggregate-domino-line
     domino-line-requires
-    same-length
     returns-2)
