@@ -8,12 +8,23 @@ const MOST_NUMBERS: usize = 300;
 
 const BEFORE: u16 = 65_535;
 
-// Answers the study after the piece.
-pub(crate) fn piece(study: Study, bytes: &[u8]) -> Study {
+pub(crate) fn bad_call() {
+    line::text(b"bad call\n");
+}
+
+fn piece_line(study: Study, bytes: &[u8]) -> Study {
     let taken = study.piece(bytes);
     line::answer(b"piece", taken.number, taken.place);
     line::end();
     taken.study
+}
+
+// The piece is the first n bytes, or all where there are fewer. Answers the study after it.
+pub(crate) fn piece(study: Study, n: usize, bytes: &[u8]) -> Study {
+    if n <= bytes.len() {
+        return piece_line(study, &bytes[..n]);
+    }
+    piece_line(study, bytes)
 }
 
 fn kinds(kinds: [u64; 6]) {
@@ -88,9 +99,10 @@ fn domino_line(study: Study, lent: &mut [u16]) {
     line::end();
 }
 
-// Answers whether n numbers can be lent.
+// Answers whether n numbers can be lent; where not, it is no call.
 pub(crate) fn domino(study: Study, n: usize) -> bool {
     if MOST_NUMBERS < n {
+        bad_call();
         return false;
     }
     let mut lent = [BEFORE; MOST_NUMBERS];

@@ -5,6 +5,9 @@ use borrow.Author.Needs.{needs}
 use Rattle.replay.proofs.answers.domino.Statement.{statement}
 use Rattle.replay.proofs.answers.domino.Tie as tie
 
+bad-call-requires : tie.Need-bad-call-requires
+bad-call-requires c κs = tt
+
 returns : tie.Need-returns
 returns c = search needs
 
@@ -24,6 +27,7 @@ pub domino-spec : {M : Type 1} → statement M
 domino-spec =
     tie.close
     (tie.spec
+    bad-call-requires
     returns
     array-borrow-prefix-lent
     slice-aggregate-domino-line
