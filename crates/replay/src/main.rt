@@ -1,8 +1,9 @@
 // Replays lists of calls, each on a fresh study, and prints a line for every answer: first the list on standard input, then that of each file named as an
 // argument, with a line `list NAME` before it.
 //
-// A list is `p`, a length and that many bytes for a piece, `t` for the totals, `g` and a number for one target, `d` and a number n for the domino list into n lent
-// numbers that hold 65535 before. Lengths and numbers have two bytes, most significant first.
+// A list is `p`, a length and that many bytes for a piece, `t` for the totals, `g` and a number for one target, `d` and a number n, at most 300, for the domino
+// list into n lent numbers that hold 65535 before. Lengths and numbers have two bytes, most significant first. Anything else ends the list with a line
+// `bad call`. docs/REPLAY_LIST.md works out the answers to the stored lists.
 mod answers;
 mod calls;
 mod line;
