@@ -1,16 +1,11 @@
 // The line of each answer.
+use crate::calls::MOST_LENT;
 use crate::line;
 use state::Totals;
 use study::Study;
 
-// The longest list that a call for the domino list may lend, and what each of its numbers holds before.
-const MOST_NUMBERS: usize = 300;
-
+// What each lent number holds before a call for the domino list.
 const BEFORE: u16 = 65_535;
-
-pub(crate) fn bad_call() {
-    line::text(b"bad call\n");
-}
 
 fn piece_line(study: Study, bytes: &[u8]) -> Study {
     let taken = study.piece(bytes);
@@ -99,13 +94,10 @@ fn domino_line(study: Study, lent: &mut [u16]) {
     line::end();
 }
 
-// Answers whether n numbers can be lent; where not, it is no call.
-pub(crate) fn domino(study: Study, n: usize) -> bool {
-    if MOST_NUMBERS < n {
-        bad_call();
-        return false;
+// n is at most MOST_LENT.
+pub(crate) fn domino(study: Study, n: usize) {
+    let mut lent = [BEFORE; MOST_LENT];
+    if n <= MOST_LENT {
+        domino_line(study, &mut lent[..n]);
     }
-    let mut lent = [BEFORE; MOST_NUMBERS];
-    domino_line(study, &mut lent[..n]);
-    true
 }

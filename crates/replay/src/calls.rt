@@ -2,6 +2,9 @@
 ghost use Prim.Native.Nat.{_≤_};
 ghost use lib.ListN.{length};
 
+// The most numbers that a call for the domino list may lend.
+pub(crate) const MOST_LENT: usize = 300;
+
 // A call: the length of a piece, a target's number, how many numbers are lent. Or the list has no call here, ends, or cannot be read.
 pub(crate) enum Call {
     Piece(u16),
@@ -72,12 +75,19 @@ fn piece(fd: i32, n: u16, bytes: &mut [u8]) -> Call {
     }
 }
 
+fn domino(n: u16) -> Call {
+    if MOST_LENT < n as usize {
+        return Call::Bad;
+    }
+    Call::Domino(n)
+}
+
 fn numbered(fd: i32, letter: u8, n: u16, bytes: &mut [u8]) -> Call {
     if letter == b'g' {
         return Call::Target(n);
     }
     if letter == b'd' {
-        return Call::Domino(n);
+        return domino(n);
     }
     piece(fd, n, bytes)
 }
@@ -109,5 +119,14 @@ pub(crate) fn next_call(fd: i32, bytes: &mut [u8]) -> Call {
         Got::Short => Call::End,
         Got::Failed => Call::Failed,
         Got::All => call_of(fd, letter[0], bytes),
+    }
+}
+
+pub(crate) fn goes_on(call: Call) -> bool {
+    match call {
+        Call::Bad => false,
+        Call::End => false,
+        Call::Failed => false,
+        _ => true,
     }
 }

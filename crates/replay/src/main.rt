@@ -13,58 +13,43 @@ use libc::STDERR_FILENO;
 use libc::STDIN_FILENO;
 use study::Study;
 
-// The study after a call, and whether to go on.
-struct Replayed {
-    study: Study,
-    more: bool,
-}
-
-fn after(study: Study, more: bool) -> Replayed {
-    Replayed {
-        study: study,
-        more: more,
-    }
-}
-
-// Answers the call. The bytes of a piece are the first ones.
-fn answer(study: Study, call: Call, bytes: &[u8]) -> Replayed {
+// Answers the call, and gives the study after it. The bytes of a piece are the first ones.
+fn answer(study: Study, call: Call, bytes: &[u8]) -> Study {
     match call {
-        Call::Piece(n) => {
-            let next = answers::piece(study, n as usize, bytes);
-            after(next, true)
-        }
+        Call::Piece(n) => answers::piece(study, n as usize, bytes),
         Call::Totals => {
             answers::totals(study);
-            after(study, true)
+            study
         }
         Call::Target(t) => {
             answers::target(study, t);
-            after(study, true)
+            study
         }
         Call::Domino(n) => {
-            let answered = answers::domino(study, n as usize);
-            after(study, answered)
+            answers::domino(study, n as usize);
+            study
         }
         Call::Bad => {
-            answers::bad_call();
-            after(study, false)
+            line::text(b"bad call\n");
+            study
         }
-        Call::End => after(study, false),
+        Call::End => study,
         Call::Failed => {
             io::write_all(STDERR_FILENO, b"replay: the list cannot be read\n");
-            after(study, false)
+            study
         }
     }
 }
 
 // A proved loop has to end, and nothing says that a list does: the turns are counted down, from a number that no run uses up.
 fn replay(fd: i32, bytes: &mut [u8]) {
-    let mut t = after(Study::fresh(), true);
+    let mut study = Study::fresh();
+    let mut more = true;
     let mut turns = u64::MAX;
-    while turns > 0 && t.more {
-        let study = t.study;
+    while turns > 0 && more {
         let call = calls::next_call(fd, bytes);
-        t = answer(study, call, bytes);
+        study = answer(study, call, bytes);
+        more = calls::goes_on(call);
         turns -= 1;
     }
 }

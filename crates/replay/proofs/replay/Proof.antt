@@ -6,16 +6,13 @@ use Rattle.replay.proofs.replay.Statement.{statement}
 use Rattle.replay.proofs.replay.Tie as tie
 
 abbrev Inv-loop : tie.InvT-loop
-Inv-loop fd bytes₀ t₀ turns₀ bytes t turns = length bytes ≡ length bytes₀
+Inv-loop fd bytes₀ study₀ more₀ turns₀ bytes study more turns = length bytes ≡ length bytes₀
 
 abbrev μ-loop : tie.MeasureT-loop
-μ-loop fd bytes₀ t₀ turns₀ bytes t turns = turns
+μ-loop fd bytes₀ study₀ more₀ turns₀ bytes study more turns = turns
 
 fresh-requires : tie.Need-fresh-requires Inv-loop μ-loop
 fresh-requires c κs = search needs
-
-after-requires : tie.Need-after-requires Inv-loop μ-loop
-after-requires c κs = search needs
 
 loop-holds : tie.Need-loop-holds Inv-loop μ-loop
 loop-holds c = search needs
@@ -25,6 +22,9 @@ next-call-requires c κs = search needs
 
 answer-requires : tie.Need-answer-requires Inv-loop μ-loop
 answer-requires c κs = search needs
+
+goes-on-requires : tie.Need-goes-on-requires Inv-loop μ-loop
+goes-on-requires c κs = search needs
 
 sub-turns : tie.Need-sub-turns Inv-loop μ-loop
 sub-turns c = search needs
@@ -54,10 +54,10 @@ replay-spec =
     Inv-loop
     μ-loop
     fresh-requires
-    after-requires
     loop-holds
     next-call-requires
     answer-requires
+    goes-on-requires
     sub-turns
     loop-less
     loop-again

@@ -5,12 +5,6 @@ use borrow.Author.Needs.{needs}
 use Rattle.replay.proofs.answers.domino.Statement.{statement}
 use Rattle.replay.proofs.answers.domino.Tie as tie
 
-bad-call-requires : tie.Need-bad-call-requires
-bad-call-requires c κs = tt
-
-returns : tie.Need-returns
-returns c = search needs
-
 array-borrow-prefix-lent : tie.Need-array-borrow-prefix-lent
 array-borrow-prefix-lent c = search needs
 
@@ -20,6 +14,9 @@ slice-aggregate-domino-line c = sym (length-take-le _ _ (search needs))
 domino-line-requires : tie.Need-domino-line-requires
 domino-line-requires c κs = search needs
 
+returns : tie.Need-returns
+returns c = search needs
+
 returns-2 : tie.Need-returns-2
 returns-2 c = search needs
 
@@ -27,9 +24,8 @@ pub domino-spec : {M : Type 1} → statement M
 domino-spec =
     tie.close
     (tie.spec
-    bad-call-requires
-    returns
     array-borrow-prefix-lent
     slice-aggregate-domino-line
     domino-line-requires
+    returns
     returns-2)
