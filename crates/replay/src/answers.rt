@@ -1,5 +1,5 @@
 // The line of each answer.
-use crate::calls::MOST_LENT;
+use crate::calls::MOST_NUMBERS;
 use crate::line;
 use state::Totals;
 use study::Study;
@@ -94,10 +94,10 @@ fn domino_line(study: Study, lent: &mut [u16]) {
     line::end();
 }
 
-// n is at most MOST_LENT.
+// n is at most MOST_NUMBERS.
 pub(crate) fn domino(study: Study, n: usize) {
-    let mut lent = [BEFORE; MOST_LENT];
-    if n <= MOST_LENT {
+    let mut lent = [BEFORE; MOST_NUMBERS];
+    if n <= MOST_NUMBERS {
         domino_line(study, &mut lent[..n]);
     }
 }

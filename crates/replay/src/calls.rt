@@ -3,7 +3,7 @@ ghost use Prim.Native.Nat.{_≤_};
 ghost use lib.ListN.{length};
 
 // The most numbers that a call for the domino list may lend.
-pub(crate) const MOST_LENT: usize = 300;
+pub(crate) const MOST_NUMBERS: usize = 300;
 
 // A call: the length of a piece, a target's number, how many numbers are lent. Or the list has no call here, ends, or cannot be read.
 pub(crate) enum Call {
@@ -76,7 +76,7 @@ fn piece(fd: i32, n: u16, bytes: &mut [u8]) -> Call {
 }
 
 fn domino(n: u16) -> Call {
-    if MOST_LENT < n as usize {
+    if MOST_NUMBERS < n as usize {
         return Call::Bad;
     }
     Call::Domino(n)
