@@ -94,7 +94,7 @@ fn domino_line(study: Study, lent: &mut [u16]) {
     line::end();
 }
 
-// n is at most MOST_NUMBERS.
+// Into n lent numbers.
 pub(crate) fn domino(study: Study, n: usize) {
     let mut lent = [BEFORE; MOST_NUMBERS];
     if n <= MOST_NUMBERS {

@@ -75,41 +75,33 @@ fn piece(fd: i32, n: u16, bytes: &mut [u8]) -> Call {
     }
 }
 
-fn domino(n: u16) -> Call {
+fn numbered(fd: i32, letter: u8, n: u16, bytes: &mut [u8]) -> Call {
+    if letter == b'p' {
+        return piece(fd, n, bytes);
+    }
+    if letter == b'g' {
+        return Call::Target(n);
+    }
     if MOST_NUMBERS < n as usize {
         return Call::Bad;
     }
     Call::Domino(n)
 }
 
-fn numbered(fd: i32, letter: u8, n: u16, bytes: &mut [u8]) -> Call {
-    if letter == b'g' {
-        return Call::Target(n);
+// A call's number has two bytes, most significant first.
+fn call_of(fd: i32, letter: u8, bytes: &mut [u8]) -> Call {
+    if letter == b't' {
+        return Call::Totals;
     }
-    if letter == b'd' {
-        return domino(n);
+    if letter != b'p' && letter != b'g' && letter != b'd' {
+        return Call::Bad;
     }
-    piece(fd, n, bytes)
-}
-
-// A call that has a number: two bytes, most significant first.
-fn with_number(fd: i32, letter: u8, bytes: &mut [u8]) -> Call {
     let mut two = [0u8; 2];
     match fill(fd, &mut two) {
         Got::Short => Call::Bad,
         Got::Failed => Call::Failed,
         Got::All => numbered(fd, letter, joined(two[0], two[1]), bytes),
     }
-}
-
-fn call_of(fd: i32, letter: u8, bytes: &mut [u8]) -> Call {
-    if letter == b't' {
-        return Call::Totals;
-    }
-    if letter == b'p' || letter == b'g' || letter == b'd' {
-        return with_number(fd, letter, bytes);
-    }
-    Call::Bad
 }
 
 // The next call. The bytes of a piece are then at the front of the lent ones.

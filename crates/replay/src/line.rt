@@ -10,10 +10,8 @@ pub(crate) fn text(bytes: &[u8]) {
 
 // A blank and a number.
 pub(crate) fn number(n: u64) {
-    let mut digits = [0u8; 20];
-    let count = io::decimal(n, &mut digits);
     text(b" ");
-    text(&digits[..count]);
+    io::print_decimal(STDOUT_FILENO, n);
 }
 
 // A word, a blank and a number.
