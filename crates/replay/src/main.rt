@@ -1,176 +1,69 @@
 // Replays lists of calls, each on a fresh study, and prints a line for every answer: first the list on standard input, then that of each file named as an
 // argument, with a line `list NAME` before it.
 //
-// A list is `p`, a length and that many bytes for a piece, `t` for the totals, `g` and a number for one target, `d` and a number n for the domino list into n lent
-// numbers that hold 65535 before. Lengths and numbers have two bytes, most significant first.
+// A list is `p`, a length and that many bytes for a piece, `t` for the totals, `g` and a number for one target, `d` and a number n, at most 300, for the domino
+// list into n lent numbers that hold 65535 before. Lengths and numbers have two bytes, most significant first. Anything else ends the list with a line
+// `bad call`. docs/REPLAY_LIST.md works out the answers to the stored lists.
 mod answers;
-mod input;
+mod calls;
 mod line;
 
-use input::Front;
-use input::Input;
-use input::Next;
-use input::Number;
+use calls::Call;
 use libc::STDERR_FILENO;
 use libc::STDIN_FILENO;
 use study::Study;
 
-// The study and the rest of the list after a call, and whether to go on.
-struct Replayed {
-    study: Study,
-    input: Input,
-    more: bool,
-}
-
-fn go_on(study: Study, input: Input) -> Replayed {
-    Replayed {
-        study: study,
-        input: input,
-        more: true,
-    }
-}
-
-fn stop(study: Study, input: Input) -> Replayed {
-    Replayed {
-        study: study,
-        input: input,
-        more: false,
-    }
-}
-
-fn stop_failed(study: Study, input: Input) -> Replayed {
-    io::write_all(STDERR_FILENO, b"replay: the list cannot be read\n");
-    stop(study, input)
-}
-
-fn stop_bad(study: Study, input: Input, out: &mut [u8]) -> Replayed {
-    answers::bad_call(out);
-    stop(study, input)
-}
-
-// The piece is the first n bytes of the list.
-fn read_piece(study: Study, input: Input, n: usize, bytes: &[u8], out: &mut [u8]) -> Replayed {
-    if n <= bytes.len() {
-        let after = answers::piece(study, &bytes[..n], out);
-        return go_on(after, input);
-    }
-    stop_bad(study, input, out)
-}
-
-fn piece(
-    study: Study,
-    input: Input,
-    n: usize,
-    buffer: &mut [u8],
-    bytes: &mut [u8],
-    out: &mut [u8],
-) -> Replayed {
-    match input::fill_front(input, buffer, n, bytes) {
-        Front::End => stop_bad(study, input, out),
-        Front::Failed => stop_failed(study, input),
-        Front::Filled(rest) => read_piece(study, rest, n, bytes, out),
-    }
-}
-
-fn target(study: Study, input: Input, t: u16, out: &mut [u8]) -> Replayed {
-    answers::target(study, t, out);
-    go_on(study, input)
-}
-
-fn domino(study: Study, input: Input, n: usize, out: &mut [u8]) -> Replayed {
-    if answers::domino(study, n, out) {
-        return go_on(study, input);
-    }
-    stop_bad(study, input, out)
-}
-
-fn totals(study: Study, input: Input, out: &mut [u8]) -> Replayed {
-    answers::totals(study, out);
-    go_on(study, input)
-}
-
-// A call that has a number.
-fn numbered(
-    call: u8,
-    study: Study,
-    input: Input,
-    buffer: &mut [u8],
-    bytes: &mut [u8],
-    out: &mut [u8],
-) -> Replayed {
-    match input::next_number(input, buffer) {
-        Number::End => stop_bad(study, input, out),
-        Number::Failed => stop_failed(study, input),
-        Number::Is(n, rest) => {
-            if call == b'p' {
-                return piece(study, rest, n as usize, buffer, bytes, out);
-            }
-            if call == b'g' {
-                return target(study, rest, n, out);
-            }
-            domino(study, rest, n as usize, out)
+// Answers the call, and gives the study after it. The bytes of a piece are the first ones.
+fn answer(study: Study, call: Call, bytes: &[u8]) -> Study {
+    match call {
+        Call::Piece(n) => answers::piece(study, n as usize, bytes),
+        Call::Totals => {
+            answers::totals(study);
+            study
         }
-    }
-}
-
-fn is_numbered(call: u8) -> bool {
-    call == b'p' || call == b'g' || call == b'd'
-}
-
-fn next_call(
-    study: Study,
-    input: Input,
-    buffer: &mut [u8],
-    bytes: &mut [u8],
-    out: &mut [u8],
-) -> Replayed {
-    match input::next_byte(input, buffer) {
-        Next::End => stop(study, input),
-        Next::Failed => stop_failed(study, input),
-        Next::Byte(call, rest) => {
-            if call == b't' {
-                return totals(study, rest, out);
-            }
-            if is_numbered(call) {
-                return numbered(call, study, rest, buffer, bytes, out);
-            }
-            stop_bad(study, rest, out)
+        Call::Target(t) => {
+            answers::target(study, t);
+            study
+        }
+        Call::Domino(n) => {
+            answers::domino(study, n as usize);
+            study
+        }
+        Call::Bad => {
+            line::text(b"bad call\n");
+            study
+        }
+        Call::End => study,
+        Call::Failed => {
+            io::write_all(STDERR_FILENO, b"replay: the list cannot be read\n");
+            study
         }
     }
 }
 
 // A proved loop has to end, and nothing says that a list does: the turns are counted down, from a number that no run uses up.
-fn replay(fd: i32, buffer: &mut [u8], bytes: &mut [u8], out: &mut [u8]) {
-    let mut t = go_on(
-        Study::fresh(),
-        Input {
-            fd: fd,
-            at: 0,
-            end: 0,
-        },
-    );
+fn replay(fd: i32, bytes: &mut [u8]) {
+    let mut study = Study::fresh();
+    let mut more = true;
     let mut turns = u64::MAX;
-    while turns > 0 && t.more {
-        let study = t.study;
-        let input = t.input;
-        t = next_call(study, input, buffer, bytes, out);
+    while turns > 0 && more {
+        let call = calls::next_call(fd, bytes);
+        study = answer(study, call, bytes);
+        more = calls::goes_on(call);
         turns -= 1;
     }
 }
 
 // The list that a descriptor has.
 fn replay_list(fd: i32) {
-    let mut buffer = io::large_buffer();
     let mut bytes = io::large_buffer();
-    let mut out = io::buffer();
-    replay(fd, &mut buffer, &mut bytes, &mut out);
+    replay(fd, &mut bytes);
 }
 
 fn title(name: &[u8]) {
-    let mut out = io::buffer();
-    let at = line::text(&mut out, 0, b"list ");
-    let next = line::text(&mut out, at, name);
-    line::end(&mut out, next);
+    line::text(b"list ");
+    line::text(name);
+    line::end();
 }
 
 // The list in the file that argument i names.

@@ -13,22 +13,7 @@ struct Turn {
     failed: bool,
 }
 
-// A piece is taken. 7 isn't kept by the study, so it is kept here.
-fn take(before: Taken, bytes: &[u8]) -> Taken {
-    let s = before.study;
-    let after = s.piece(bytes);
-    if before.number == 7 {
-        let study = after.study;
-        return Taken {
-            study: study,
-            number: 7,
-            place: before.place,
-        };
-    }
-    after
-}
-
-// One read, of what the buffer holds at most.
+// One read, of what the buffer holds at most. A piece has bytes, so that its answer is 7 wherever bytes follow the closing record.
 fn read_piece(before: Taken, buffer: &mut [u8]) -> Turn {
     let got = libc::read(STDIN_FILENO, buffer);
     if got < 0 {
@@ -46,8 +31,9 @@ fn read_piece(before: Taken, buffer: &mut [u8]) -> Turn {
         };
     }
     let n = io::count(got, buffer);
+    let s = before.study;
     Turn {
-        taken: take(before, &buffer[..n]),
+        taken: s.piece(&buffer[..n]),
         more: true,
         failed: false,
     }

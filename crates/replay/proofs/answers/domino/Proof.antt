@@ -5,9 +5,6 @@ use borrow.Author.Needs.{needs}
 use Rattle.replay.proofs.answers.domino.Statement.{statement}
 use Rattle.replay.proofs.answers.domino.Tie as tie
 
-returns : tie.Need-returns
-returns c = search needs
-
 array-borrow-prefix-lent : tie.Need-array-borrow-prefix-lent
 array-borrow-prefix-lent c = search needs
 
@@ -17,8 +14,8 @@ slice-aggregate-domino-line c = sym (length-take-le _ _ (search needs))
 domino-line-requires : tie.Need-domino-line-requires
 domino-line-requires c κs = search needs
 
-same-length : tie.Need-same-length
-same-length c = search needs
+returns : tie.Need-returns
+returns c = search needs
 
 returns-2 : tie.Need-returns-2
 returns-2 c = search needs
@@ -27,9 +24,8 @@ pub domino-spec : {M : Type 1} → statement M
 domino-spec =
     tie.close
     (tie.spec
-    returns
     array-borrow-prefix-lent
     slice-aggregate-domino-line
     domino-line-requires
-    same-length
+    returns
     returns-2)

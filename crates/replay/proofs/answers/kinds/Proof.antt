@@ -1,19 +1,23 @@
--- `replay::answers::kinds` is safe and ends. The line keeps its length; the measure is how many kinds are still to come. Assumes nothing.
-use mathlib.Core.Path.{_≡_}
+-- `replay::answers::kinds` is safe and ends. The measure is how many kinds are still to come. Assumes nothing.
 use Prim.Native.Nat.{_-_}
-use lib.ListN.{length}
 use borrow.Author.Needs.{needs}
 use Rattle.replay.proofs.answers.kinds.Statement.{statement}
 use Rattle.replay.proofs.answers.kinds.Tie as tie
 
 abbrev Inv-loop : tie.InvT-loop
-Inv-loop out₀ at kinds next₀ k₀ out next k = length out ≡ length out₀
+Inv-loop kinds k₀ k = Unit {0}
 
 abbrev μ-loop : tie.MeasureT-loop
-μ-loop out₀ at kinds next₀ k₀ out next k = 6 - k
+μ-loop kinds k₀ k = 6 - k
+
+slice-aggregate-text : tie.Need-slice-aggregate-text Inv-loop μ-loop
+slice-aggregate-text c = search needs
+
+text-requires : tie.Need-text-requires Inv-loop μ-loop
+text-requires c κs = tt
 
 loop-holds : tie.Need-loop-holds Inv-loop μ-loop
-loop-holds c = search needs
+loop-holds c = tt
 
 mul-number : tie.Need-mul-number Inv-loop μ-loop
 mul-number c = search needs
@@ -22,7 +26,7 @@ array-read-number : tie.Need-array-read-number Inv-loop μ-loop
 array-read-number c = search needs
 
 number-requires : tie.Need-number-requires Inv-loop μ-loop
-number-requires c κs = search needs
+number-requires c κs = tt
 
 add-k : tie.Need-add-k Inv-loop μ-loop
 add-k c = search needs
@@ -31,10 +35,7 @@ loop-less : tie.Need-loop-less Inv-loop μ-loop
 loop-less c = search needs
 
 loop-again : tie.Need-loop-again Inv-loop μ-loop
-loop-again c = search needs
-
-same-length : tie.Need-same-length Inv-loop μ-loop
-same-length c = search needs
+loop-again c = tt
 
 returns : tie.Need-returns Inv-loop μ-loop
 returns c = search needs
@@ -45,6 +46,8 @@ kinds-spec =
     (tie.spec
     Inv-loop
     μ-loop
+    slice-aggregate-text
+    text-requires
     loop-holds
     mul-number
     array-read-number
@@ -52,5 +55,4 @@ kinds-spec =
     add-k
     loop-less
     loop-again
-    same-length
     returns)
