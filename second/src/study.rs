@@ -490,6 +490,11 @@ impl Study {
         Ok(())
     }
 
+    /// Whether the order allows a record of this kind next.
+    pub fn allows(&self, kind: u8) -> bool {
+        (record::OPENING..=record::CLOSING).contains(&kind) && self.stage.allows(kind)
+    }
+
     /// The number a report is refused with before it is looked at closer.
     fn report_refusal(&self) -> Option<u8> {
         match self.stage {

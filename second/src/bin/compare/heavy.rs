@@ -84,13 +84,14 @@ impl Open {
 }
 
 fn facts(number: u16) -> Facts {
+    let class = (number % 6) as u8;
+    let setting = match class {
+        0 => (number / 6 % 3) as u8,
+        _ => 0,
+    };
     Facts {
-        class: (number % 6) as u8,
-        setting: if number % 6 == 0 {
-            (number % 3) as u8
-        } else {
-            0
-        },
+        class,
+        setting,
         volume: u32::from(number) * 300,
     }
 }
