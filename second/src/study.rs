@@ -109,8 +109,9 @@ pub struct Study {
     stage: Stage,
     /// The number kept in stage `Refused`.
     refusal: u8,
-    /// Bytes held in `cut`.
+    /// Bytes held in `cut`, and those missing to the whole record.
     held: u8,
+    missing: u8,
     /// Branchings above the tree or outcome being read.
     above: u8,
     /// Entries used in `branches`.
@@ -170,6 +171,7 @@ impl Study {
             stage: Stage::Opening,
             refusal: number::TAKEN,
             held: 0,
+            missing: 0,
             above: 0,
             waiting: 0,
             outcome: 0,
@@ -200,21 +202,19 @@ impl Study {
 
     /// Adds bytes to the held record and reads it once it is complete. Gives
     /// the bytes after it; none where it is still cut or is refused.
-    #[inline]
+    #[inline(always)]
     fn complete<'a>(&mut self, bytes: &'a [u8]) -> Option<&'a [u8]> {
         let held = usize::from(self.held);
-        let length = record::length(self.cut[0])?;
-        let (more, after) = bytes.split_at(bytes.len().min(length - held));
-        for (to, from) in self.cut[held..].iter_mut().zip(more) {
-            *to = *from;
-        }
-        self.held += more.len() as u8;
-        if usize::from(self.held) < length {
+        let Some((more, after)) = bytes.split_at_checked(usize::from(self.missing)) else {
+            copy(&mut self.cut[held..], bytes);
+            self.held += bytes.len() as u8;
+            self.missing -= bytes.len() as u8;
             return None;
-        }
+        };
+        copy(&mut self.cut[held..], more);
         self.held = 0;
         let cut = self.cut;
-        self.next(cut[0], &cut[..length])?;
+        self.next(cut[0], &cut[..held + more.len()])?;
         Some(after)
     }
 
@@ -253,7 +253,7 @@ impl Study {
         rule: impl FnOnce(&mut Study, &[u8; N]) -> Result<(), u8>,
     ) -> Option<&'a [u8]> {
         let Some((body, after)) = rest[1..].split_first_chunk::<N>() else {
-            return self.hold(rest);
+            return self.hold(rest, 1 + N);
         };
         if !self.stage.allows(rest[0]) {
             return self.refuse(number::ORDER);
@@ -269,12 +269,13 @@ impl Study {
         Some(after)
     }
 
-    /// Holds the front part of a record cut by the end of a piece.
-    fn hold<'a>(&mut self, rest: &[u8]) -> Option<&'a [u8]> {
-        for (to, from) in self.cut.iter_mut().zip(rest) {
-            *to = *from;
-        }
+    /// Holds the front part of a record of this length, cut by the end of a
+    /// piece.
+    #[inline(always)]
+    fn hold<'a>(&mut self, rest: &[u8], length: usize) -> Option<&'a [u8]> {
+        copy(&mut self.cut, rest);
         self.held = rest.len() as u8;
+        self.missing = length as u8 - self.held;
         None
     }
 
@@ -584,6 +585,14 @@ impl Study {
 
     fn declared(&self) -> &[Target] {
         &self.targets[..usize::from(self.target_count)]
+    }
+}
+
+/// Copies a few bytes to the front of `to`; faster than a general copy.
+#[inline(always)]
+fn copy(to: &mut [u8], from: &[u8]) {
+    for (to, from) in to.iter_mut().zip(from) {
+        *to = *from;
     }
 }
 

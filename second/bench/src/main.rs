@@ -103,16 +103,16 @@ fn check(input: &Input) -> bool {
 fn measure(input: &Input, size: usize) {
     let bytes = black_box(&input.bytes[..]);
     let size = black_box(size);
-    let mut times = [[0.0; RUNS]; 3];
+    let mut times = [const { Vec::new() }; 3];
     for run in 0..RUNS {
         let target = run as u16 % input.targets;
         let (first_time, first) = seconds(|| first::sum_at(bytes, size, target));
         let (second_time, second) = seconds(|| second_sum_at(bytes, size, target));
         let (pass_time, _) = seconds(|| plain_pass(bytes));
         assert_eq!(first, second, "sums of target {target} in a timed run");
-        times[0][run] = first_time;
-        times[1][run] = second_time;
-        times[2][run] = pass_time;
+        times[0].push(first_time);
+        times[1].push(second_time);
+        times[2].push(pass_time);
     }
     let [first, second, pass] = times.map(|mut times| median(&mut times));
     let rate = |time: f64| bytes.len() as f64 / 1e6 / time;
