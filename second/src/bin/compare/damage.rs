@@ -196,15 +196,16 @@ fn level(random: &mut Random, records: &mut Vec<Record>) {
     let Some(place) = find(records, place, &kinds) else {
         return;
     };
+    // With `complete` the second branches end with the tree that was here.
     let complete = random.percent(30);
-    for _ in 0..random.between(1, 9) {
-        let chance = if random.percent(10) {
+    let deepest_faulty = random.percent(30);
+    for added in 0..random.pick(&[1, 2, 4, 7, 8, 9, 9, 9, 10]) {
+        let chance = if added == 0 && deepest_faulty {
             1_000_001
         } else {
             studies::chance_of_branch(random)
         };
         if complete {
-            // The second branch stays the tree that was here.
             records.insert(place, studies::outcome(0, 0));
         }
         records.insert(place, studies::branching(chance));
