@@ -226,7 +226,7 @@ mod tests {
 
     #[test]
     fn fire_and_equipment() {
-        assert_eq!(fire_damage(0, 15_000, u16::MAX), 0);
+        assert_eq!(fire_damage(volume_term(100_000), 15_000, u16::MAX), 0);
         assert_eq!(fire_damage(0, u32::MAX, 600), 0);
         assert_eq!(fire_damage(0, u32::MAX, 601), 999_000);
         assert_eq!(volume_term(100_000), 4_925_949);

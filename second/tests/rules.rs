@@ -109,7 +109,7 @@ fn chances_of_damage() {
         assert_eq!(chance(class, 0, 0, 5, (u32::MAX, 0)), 999_000);
     }
     for class in [1, 5] {
-        assert_eq!(chance(class, 0, 0, 1, (15_000, 601)), 0);
+        assert_eq!(chance(class, 0, 100_000, 1, (15_000, 601)), 0);
         assert_eq!(chance(class, 0, 100_000, 1, (15_001, 600)), 0);
         assert_eq!(chance(class, 0, 100_000, 1, (15_001, 601)), 440_000);
     }

@@ -2,6 +2,8 @@
 //! one's replay program, and compares the lines.
 
 mod damage;
+#[cfg(test)]
+mod exact;
 mod heavy;
 mod lists;
 mod random;
