@@ -8,9 +8,6 @@ pub const OUTCOME: u8 = 5;
 pub const EFFECT: u8 = 6;
 pub const CLOSING: u8 = 7;
 
-/// The length of the longest record, its kind byte included.
-pub const LONGEST: usize = 13;
-
 /// Lengths by kind, the kind byte included; 0 where the kind is unknown.
 const LENGTHS: [u8; 8] = [0, 5, 9, 13, 5, 4, 9, 13];
 

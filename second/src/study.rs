@@ -1,7 +1,7 @@
 //! The streaming reader of one study.
 //!
 //! A record that lies whole in a piece is read straight from it. Only a record
-//! cut by the end of a piece is held in a small buffer until it is complete.
+//! cut by the end of a piece is held, in one number, until it is complete.
 
 use crate::chance;
 use crate::record::{self, number, outcome};
@@ -78,6 +78,15 @@ struct Branch {
     above: u8,
 }
 
+/// Why no record was read.
+enum Stop {
+    /// The piece ends before the record, whose length this is.
+    Cut(usize),
+    Refused,
+    /// The study is closed.
+    Closed,
+}
+
 /// How an outcome works on its targets; the rules for effects depend on it.
 mod form {
     pub const FIRE: u8 = 0;
@@ -109,7 +118,8 @@ pub struct Study {
     stage: Stage,
     /// The number kept in stage `Refused`.
     refusal: u8,
-    /// Bytes held in `cut`, and those missing to the whole record.
+    /// Bytes held in `cut`, and those missing to the whole record; both are 0
+    /// where no record is held.
     held: u8,
     missing: u8,
     /// Branchings above the tree or outcome being read.
@@ -119,7 +129,8 @@ pub struct Study {
     outcome: u8,
     /// Whether the leak is frequent enough for the domino list.
     frequent: bool,
-    cut: [u8; record::LONGEST],
+    /// The held bytes, the last one in the lowest place; above them anything.
+    cut: u128,
     targets: [Target; Study::MAX_TARGETS as usize],
 }
 
@@ -176,59 +187,90 @@ impl Study {
             waiting: 0,
             outcome: 0,
             frequent: false,
-            cut: [0; record::LONGEST],
+            cut: 0,
             targets: [Target::NONE; Study::MAX_TARGETS as usize],
         }
     }
 
     /// Reads the next piece of the study.
+    #[inline]
     pub fn piece(&mut self, bytes: &[u8]) -> Answer {
+        if bytes.len() < usize::from(self.missing) {
+            // The held record stays cut.
+            self.cut = append(self.cut, bytes);
+            self.held += bytes.len() as u8;
+            self.missing -= bytes.len() as u8;
+            return self.answer(number::TAKEN);
+        }
+        self.read(bytes)
+    }
+
+    /// Reads a piece that completes the held record, if there is one.
+    #[inline(never)]
+    fn read(&mut self, bytes: &[u8]) -> Answer {
         let mut rest = bytes;
         if self.held > 0 {
             match self.complete(rest) {
-                Some(after) => rest = after,
-                None => return self.answer(self.refusal),
+                Ok(after) => rest = after,
+                Err(_) => return self.answer(self.refusal),
             }
         }
         while let Some(&kind) = rest.first() {
             match self.next(kind, rest) {
-                Some(after) => rest = after,
-                None if self.stage == Stage::Closed => return self.answer(number::AFTER_CLOSING),
-                None => break,
+                Ok(after) => rest = after,
+                Err(Stop::Cut(length)) => {
+                    self.hold(bytes, rest.len(), length);
+                    break;
+                }
+                Err(Stop::Refused) => break,
+                Err(Stop::Closed) => return self.answer(number::AFTER_CLOSING),
             }
         }
         self.answer(self.refusal)
     }
 
-    /// Adds bytes to the held record and reads it once it is complete. Gives
-    /// the bytes after it; none where it is still cut or is refused.
+    /// Completes the held record and reads it. Gives the bytes after it.
     #[inline(always)]
-    fn complete<'a>(&mut self, bytes: &'a [u8]) -> Option<&'a [u8]> {
-        let held = usize::from(self.held);
-        let Some((more, after)) = bytes.split_at_checked(usize::from(self.missing)) else {
-            copy(&mut self.cut[held..], bytes);
-            self.held += bytes.len() as u8;
-            self.missing -= bytes.len() as u8;
-            return None;
+    fn complete<'a>(&mut self, bytes: &'a [u8]) -> Result<&'a [u8], Stop> {
+        let missing = usize::from(self.missing);
+        let length = usize::from(self.held) + missing;
+        let (more, after) = bytes.split_at(missing);
+        let cut = match bytes.first_chunk() {
+            Some(front) => {
+                self.cut << (8 * missing) | u128::from_be_bytes(*front) >> (8 * (16 - missing))
+            }
+            None => append(self.cut, more),
         };
-        copy(&mut self.cut[held..], more);
         self.held = 0;
-        let cut = self.cut;
-        self.next(cut[0], &cut[..held + more.len()])?;
-        Some(after)
+        self.missing = 0;
+        let record = (cut << (8 * (16 - length))).to_be_bytes();
+        self.next(record[0], &record[..length])?;
+        Ok(after)
+    }
+
+    /// Holds the last `held` bytes of a piece, the front part of a record of
+    /// this length.
+    #[inline(always)]
+    fn hold(&mut self, bytes: &[u8], held: usize, length: usize) {
+        self.cut = match bytes.last_chunk() {
+            Some(back) => u128::from_be_bytes(*back),
+            None => append(0, &bytes[bytes.len() - held..]),
+        };
+        self.held = held as u8;
+        self.missing = (length - held) as u8;
     }
 
     /// Reads the record at the front of `rest`, and with an effect those that
-    /// follow it. Gives the bytes after; none where nothing more is read: the
-    /// record is cut, it is refused, or the study takes no more.
+    /// follow it. Gives the bytes after.
     #[inline(always)]
-    fn next<'a>(&mut self, kind: u8, rest: &'a [u8]) -> Option<&'a [u8]> {
+    fn next<'a>(&mut self, kind: u8, rest: &'a [u8]) -> Result<&'a [u8], Stop> {
         match self.stage {
-            Stage::Closed | Stage::Refused => return None,
+            Stage::Closed => return Err(Stop::Closed),
+            Stage::Refused => return Err(Stop::Refused),
             Stage::Effects => {
                 let after = self.effects(rest);
                 if after.len() < rest.len() {
-                    return Some(after);
+                    return Ok(after);
                 }
             }
             _ => {}
@@ -251,9 +293,9 @@ impl Study {
         &mut self,
         rest: &'a [u8],
         rule: impl FnOnce(&mut Study, &[u8; N]) -> Result<(), u8>,
-    ) -> Option<&'a [u8]> {
+    ) -> Result<&'a [u8], Stop> {
         let Some((body, after)) = rest[1..].split_first_chunk::<N>() else {
-            return self.hold(rest, 1 + N);
+            return Err(Stop::Cut(1 + N));
         };
         if !self.stage.allows(rest[0]) {
             return self.refuse(number::ORDER);
@@ -266,25 +308,14 @@ impl Study {
         }
         self.records += 1;
         self.taken += 1 + N as u64;
-        Some(after)
-    }
-
-    /// Holds the front part of a record of this length, cut by the end of a
-    /// piece.
-    #[inline(always)]
-    fn hold<'a>(&mut self, rest: &[u8], length: usize) -> Option<&'a [u8]> {
-        copy(&mut self.cut, rest);
-        self.held = rest.len() as u8;
-        self.missing = length as u8 - self.held;
-        None
+        Ok(after)
     }
 
     #[cold]
-    fn refuse<'a>(&mut self, refusal: u8) -> Option<&'a [u8]> {
+    fn refuse<'a>(&mut self, refusal: u8) -> Result<&'a [u8], Stop> {
         self.stage = Stage::Refused;
         self.refusal = refusal;
-        self.held = 0;
-        None
+        Err(Stop::Refused)
     }
 
     /// An answer at the bytes read so far. After a refusal these are the bytes
@@ -588,12 +619,12 @@ impl Study {
     }
 }
 
-/// Copies a few bytes to the front of `to`; faster than a general copy.
+/// Appends a few bytes to those of a number.
 #[inline(always)]
-fn copy(to: &mut [u8], from: &[u8]) {
-    for (to, from) in to.iter_mut().zip(from) {
-        *to = *from;
-    }
+fn append(number: u128, bytes: &[u8]) -> u128 {
+    bytes
+        .iter()
+        .fold(number, |number, &byte| number << 8 | u128::from(byte))
 }
 
 /// Frequency times chance in millionths, rounded down. The product fits: a
