@@ -93,6 +93,7 @@ fn facts(number: u16) -> Facts {
         class,
         setting,
         volume: u32::from(number) * 300,
+        edge_heat: 0,
     }
 }
 

@@ -23,6 +23,10 @@ const THREADS: usize = 2;
 /// A pipe takes this much without a reader.
 const PIPE: usize = 60_000;
 
+/// A longer list of calls is written to this file instead of shown.
+const LONGEST_SHOWN: usize = 200_000;
+const DIFFERENCE: &str = "target/difference.calls";
+
 const USAGE: &str = "usage: compare [--replay PATH] [COUNT] [SEED]";
 
 struct Options {
@@ -169,16 +173,16 @@ fn compare(
     Ok(())
 }
 
-/// Takes lists until none is left. The large studies come first.
+/// Takes lists until none is left. The large studies come last.
 fn work(options: &Options, next: &AtomicU64, tally: &Mutex<Tally>) -> Result<(), String> {
     loop {
         let index = next.fetch_add(1, Ordering::Relaxed);
-        if index < heavy::COUNT {
-            let heavy = heavy::heavy(options.seed, index);
-            compare(options, index, heavy.name, heavy.calls, tally)?;
-        } else if index < heavy::COUNT + options.count {
+        if index < options.count {
             let calls = lists::list(options.seed, index);
             compare(options, index, "small study", calls, tally)?;
+        } else if index < options.count + heavy::COUNT {
+            let heavy = heavy::heavy(options.seed, index - options.count);
+            compare(options, index, heavy.name, heavy.calls, tally)?;
         } else {
             return Ok(());
         }
@@ -190,12 +194,18 @@ fn show(difference: &Difference) {
         "first difference: list {}, {}",
         difference.index, difference.name
     );
-    let hex: String = difference
-        .calls
-        .iter()
-        .map(|b| format!("{b:02x}"))
-        .collect();
-    println!("calls: {hex}");
+    if difference.calls.len() <= LONGEST_SHOWN {
+        let bytes = difference.calls.iter();
+        let hex: String = bytes.map(|byte| format!("{byte:02x}")).collect();
+        println!("calls: {hex}");
+    } else {
+        let written = std::fs::write(DIFFERENCE, &difference.calls);
+        let length = difference.calls.len();
+        match written {
+            Ok(()) => println!("calls: {length} bytes, written to {DIFFERENCE}"),
+            Err(error) => println!("calls: {length} bytes; {DIFFERENCE}: {error}"),
+        }
+    }
     println!("--- first implementation\n{}", difference.first);
     println!("--- second implementation\n{}", difference.second);
     let pairs = difference.first.lines().zip(difference.second.lines());

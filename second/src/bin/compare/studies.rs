@@ -57,6 +57,9 @@ pub struct Facts {
     pub class: u8,
     pub setting: u8,
     pub volume: u32,
+    /// Heat at which the probit of damage by fire meets an entry of the table,
+    /// or misses it by one millionth; 0 where none was looked for.
+    pub edge_heat: u32,
 }
 
 /// How the branches of a tree go on.
@@ -139,11 +142,15 @@ impl Maker<'_> {
             } else {
                 0
             };
-            let volume = self.volume();
+            let (volume, edge_heat) = match class {
+                1 | 5 if self.random.percent(50) => edge_volume(self.random),
+                _ => (self.volume(), 0),
+            };
             self.targets.push(Facts {
                 class,
                 setting,
                 volume,
+                edge_heat,
             });
             self.records
                 .push(target(number as u16, class, setting, volume));
@@ -262,6 +269,9 @@ pub fn effect_values(random: &mut Random, kind: u8, facts: Facts) -> (u32, u16) 
     match kind {
         outcome::FLASH_FIRE => (random.below(2) as u32, 0),
         outcome::EXPLOSION => (overpressure(random, facts), 0),
+        _ if facts.edge_heat > 0 && random.percent(40) => {
+            (facts.edge_heat, random.pick(&[601, 602, 4_632, 65_535]))
+        }
         _ => {
             let duration = duration(random, facts);
             (heat(random, facts, duration), duration)
@@ -315,6 +325,31 @@ fn step_value(random: &mut Random) -> u32 {
     let octave = random.pick(&[14, 15, 16, 17, 12, 31]);
     let least = mantissa.div_ceil(1 << (31 - octave));
     (least + random.below(3) - 1).min(u64::from(u32::MAX)) as u32
+}
+
+/// A volume and a heat at which the probit of damage by fire is exactly an
+/// entry of the table, or one millionth less.
+fn edge_volume(random: &mut Random) -> (u32, u32) {
+    for _ in 0..100 {
+        let heat = random.between(15_001, 400_000) as u32;
+        let entry = random.between(267, 809) as i64 * 10_000;
+        if probit::chance(entry) == probit::chance(entry - 1) {
+            continue;
+        }
+        let needed = entry - chance::fire_damage_probit(heat, 0);
+        let Ok(needed @ 1..=4_925_949) = u64::try_from(needed) else {
+            continue;
+        };
+        let volume = (needed * 100_000).div_ceil(4_925_949) as u32;
+        let term = |volume| u64::from(chance::volume_term(volume));
+        if term(volume) == needed {
+            return (volume, heat);
+        }
+        if term(volume - 1) == needed - 1 {
+            return (volume - 1, heat);
+        }
+    }
+    (random.between(0, 100_000) as u32, 0)
 }
 
 /// The least value at which the chance, rising with it, reaches a random
