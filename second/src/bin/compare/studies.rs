@@ -289,33 +289,37 @@ fn duration(random: &mut Random, facts: Facts) -> u16 {
 }
 
 fn heat(random: &mut Random, facts: Facts, duration: u16) -> u32 {
-    match random.below(6) {
-        0 => random.pick(&[0, 1, 2, 3, 14_999, 15_000, 15_001, 34_999, 35_000, 35_001]),
-        1 => random.between(0, 40_000) as u32,
-        2 => step_value(random),
-        3 => random.any_size(32) as u32,
-        _ => edge_of_chance(random, |heat| match facts.class {
-            0 => probit::chance(chance::fire_death_probit(heat.max(1), duration)),
-            _ => {
-                let volume = chance::volume_term(facts.volume);
-                probit::chance(chance::fire_damage_probit(heat.max(1), volume))
-            }
+    match (random.below(6), facts.class) {
+        (0, 0) => random.pick(&[0, 1, 2, 3, 34_999, 35_000, 35_001]),
+        (0, _) => random.pick(&[0, 1, 14_999, 15_000, 15_001, 15_002]),
+        (1, _) => random.between(0, 40_000) as u32,
+        (2, _) => step_value(random),
+        (3, _) => random.any_size(32) as u32,
+        (_, 0) => edge_of_chance(random, |heat| {
+            probit::chance(chance::fire_death_probit(heat, duration))
         }),
+        _ => {
+            let volume = chance::volume_term(facts.volume);
+            edge_of_chance(random, |heat| {
+                probit::chance(chance::fire_damage_probit(heat, volume))
+            })
+        }
     }
 }
 
+/// The overpressure from which each class is damaged.
+const DAMAGING: [u64; 6] = [10_000, 5_170, 30_000, 17_000, 18_700, 30_000];
+
 fn overpressure(random: &mut Random, facts: Facts) -> u32 {
-    match random.below(6) {
-        0 => random.pick(&[
-            0, 1, 9_999, 10_000, 10_001, 29_999, 30_000, 30_001, 5_169, 5_170, 5_171, 16_999,
-            17_000, 17_001, 18_699, 18_700, 18_701, 67_000, 70_000,
-        ]),
-        1 => random.between(0, 200_000) as u32,
-        2 => step_value(random),
-        3 => random.any_size(32) as u32,
-        _ => edge_of_chance(random, |pressure| {
-            chance::blast_damage(facts.class, pressure)
-        }),
+    let threshold = DAMAGING[usize::from(facts.class)];
+    match (random.below(6), facts.class) {
+        (0, _) => (threshold + random.below(3) - 1) as u32,
+        (1, _) => random.between(0, 200_000) as u32,
+        (2, _) => step_value(random),
+        (3, _) => random.any_size(32) as u32,
+        (_, 0) => random.pick(&[0, 9_999, 10_000, 29_999, 30_000, 30_001]),
+        (4, 1) => random.between(66_000, 71_000) as u32,
+        (_, class) => edge_of_chance(random, |pressure| chance::blast_damage(class, pressure)),
     }
 }
 
