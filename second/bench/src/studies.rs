@@ -1,0 +1,183 @@
+//! The studies that are timed, made from a seed.
+
+use desk::record;
+
+/// A closed study.
+pub struct Input {
+    pub name: &'static str,
+    pub bytes: Vec<u8>,
+    pub records: u32,
+    pub targets: u16,
+}
+
+pub fn inputs(seed: u64) -> [Input; 3] {
+    [effects(seed), deep_trees(seed), small_scenarios(seed)]
+}
+
+/// Numbers from a seed (splitmix64).
+struct Random(u64);
+
+impl Random {
+    fn below(&mut self, bound: u64) -> u64 {
+        self.0 = self.0.wrapping_add(0x9e37_79b9_7f4a_7c15);
+        let mut mixed = self.0;
+        mixed = (mixed ^ (mixed >> 30)).wrapping_mul(0xbf58_476d_1ce4_e5b9);
+        mixed = (mixed ^ (mixed >> 27)).wrapping_mul(0x94d0_49bb_1331_11eb);
+        (mixed ^ (mixed >> 31)) % bound
+    }
+}
+
+struct Maker {
+    random: Random,
+    bytes: Vec<u8>,
+    records: u32,
+    scenarios: u32,
+    leaks: u64,
+    targets: u16,
+}
+
+impl Maker {
+    fn new(seed: u64, targets: u16) -> Maker {
+        let mut maker = Maker {
+            random: Random(seed),
+            bytes: Vec::new(),
+            records: 0,
+            scenarios: 0,
+            leaks: 0,
+            targets,
+        };
+        maker.record(record::OPENING, &[&seed.to_be_bytes()[4..]]);
+        for number in 0..targets {
+            let class = maker.random.below(6) as u8;
+            let people = class == 0;
+            let setting = if people {
+                maker.random.below(3) as u8
+            } else {
+                0
+            };
+            let volume = maker.random.below(100_001) as u32;
+            maker.record(
+                record::TARGET,
+                &[
+                    &number.to_be_bytes(),
+                    &[class, setting],
+                    &volume.to_be_bytes(),
+                ],
+            );
+        }
+        maker
+    }
+
+    fn record(&mut self, kind: u8, fields: &[&[u8]]) {
+        self.bytes.push(kind);
+        for field in fields {
+            self.bytes.extend_from_slice(field);
+        }
+        self.records += 1;
+    }
+
+    fn leak(&mut self) {
+        let frequency = 1_000_000 + self.random.below(1_000_000_000_000);
+        let number = self.scenarios.to_be_bytes();
+        self.record(record::LEAK, &[&number, &frequency.to_be_bytes()]);
+        self.scenarios += 1;
+        self.leaks += frequency;
+    }
+
+    fn branching(&mut self) {
+        let chance = self.random.below(1_000_001) as u32;
+        self.record(record::BRANCHING, &[&chance.to_be_bytes()]);
+    }
+
+    /// An outcome with effects on so many targets from the first on.
+    fn outcome(&mut self, kind: u8, effects: u16) {
+        self.record(record::OUTCOME, &[&[kind], &effects.to_be_bytes()]);
+        let last = self.targets - effects;
+        let from = self.random.below(u64::from(last) + 1) as u16;
+        for target in from..from + effects {
+            let (intensity, duration) = match kind {
+                1..=3 => (self.random.below(50_000), self.random.below(2_000) + 1),
+                4 => (self.random.below(2), 0),
+                _ => (self.random.below(200_000), 0),
+            };
+            self.record(
+                record::EFFECT,
+                &[
+                    &target.to_be_bytes(),
+                    &(intensity as u32).to_be_bytes(),
+                    &(duration as u16).to_be_bytes(),
+                ],
+            );
+        }
+    }
+
+    fn any_kind(&mut self) -> u8 {
+        self.random.below(5) as u8 + 1
+    }
+
+    fn closed(mut self, name: &'static str) -> Input {
+        let (count, sum) = (self.records + 1, self.leaks);
+        self.record(record::CLOSING, &[&count.to_be_bytes(), &sum.to_be_bytes()]);
+        Input {
+            name,
+            bytes: self.bytes,
+            records: self.records,
+            targets: self.targets,
+        }
+    }
+}
+
+/// About a million records, nearly all of them effects on 256 targets.
+fn effects(seed: u64) -> Input {
+    let mut maker = Maker::new(seed, 256);
+    while maker.records < 998_000 {
+        maker.leak();
+        maker.branching();
+        maker.outcome(0, 0);
+        maker.branching();
+        for _ in 0..2 {
+            let kind = maker.any_kind();
+            let effects = 100 + maker.random.below(157) as u16;
+            maker.outcome(kind, effects);
+        }
+    }
+    maker.closed("effects")
+}
+
+/// About a million records of trees in which every branching has two branches
+/// down to the last level, and few effects.
+fn deep_trees(seed: u64) -> Input {
+    fn tree(maker: &mut Maker, above: u32) {
+        if above < 8 {
+            maker.branching();
+            tree(maker, above + 1);
+            tree(maker, above + 1);
+        } else {
+            let kind = maker.random.below(6) as u8;
+            let effects = u16::from(kind > 0 && maker.random.below(16) == 0);
+            maker.outcome(kind, effects);
+        }
+    }
+    let mut maker = Maker::new(seed, 32);
+    while maker.records < 999_000 {
+        maker.leak();
+        tree(&mut maker, 0);
+    }
+    maker.closed("deep trees")
+}
+
+/// 65,536 scenarios of one or two outcomes with one or two effects each.
+fn small_scenarios(seed: u64) -> Input {
+    let mut maker = Maker::new(seed, 64);
+    while maker.scenarios < 65_536 {
+        maker.leak();
+        if maker.random.below(2) == 0 {
+            maker.branching();
+            maker.outcome(0, 0);
+        }
+        let kind = maker.any_kind();
+        let effects = 1 + maker.random.below(2) as u16;
+        maker.outcome(kind, effects);
+    }
+    maker.closed("small scenarios")
+}

@@ -1,0 +1,377 @@
+//! Valid studies of all shapes, with values at and around the rules' limits.
+
+use crate::random::Random;
+use desk::chance;
+use desk::logarithm::THRESHOLDS;
+use desk::probit;
+use desk::record::{self, outcome};
+
+/// A record: its kind byte and body.
+pub type Record = Vec<u8>;
+
+pub fn opening(study: u32) -> Record {
+    [&[record::OPENING][..], &study.to_be_bytes()].concat()
+}
+
+pub fn target(number: u16, class: u8, setting: u8, volume: u32) -> Record {
+    let mut bytes = vec![record::TARGET];
+    bytes.extend(number.to_be_bytes());
+    bytes.extend([class, setting]);
+    bytes.extend(volume.to_be_bytes());
+    bytes
+}
+
+pub fn leak(scenario: u32, frequency: u64) -> Record {
+    let mut bytes = vec![record::LEAK];
+    bytes.extend(scenario.to_be_bytes());
+    bytes.extend(frequency.to_be_bytes());
+    bytes
+}
+
+pub fn branching(chance: u32) -> Record {
+    [&[record::BRANCHING][..], &chance.to_be_bytes()].concat()
+}
+
+pub fn outcome(kind: u8, effects: u16) -> Record {
+    [&[record::OUTCOME, kind][..], &effects.to_be_bytes()].concat()
+}
+
+pub fn effect(target: u16, intensity: u32, duration: u16) -> Record {
+    let mut bytes = vec![record::EFFECT];
+    bytes.extend(target.to_be_bytes());
+    bytes.extend(intensity.to_be_bytes());
+    bytes.extend(duration.to_be_bytes());
+    bytes
+}
+
+pub fn closing(count: u32, sum: u64) -> Record {
+    let mut bytes = vec![record::CLOSING];
+    bytes.extend(count.to_be_bytes());
+    bytes.extend(sum.to_be_bytes());
+    bytes
+}
+
+/// What a target is, as far as its effects depend on it.
+#[derive(Clone, Copy)]
+pub struct Facts {
+    pub class: u8,
+    pub setting: u8,
+    pub volume: u32,
+    /// Heat at which the probit of damage by fire meets an entry of the table,
+    /// or misses it by one millionth; 0 where none was looked for.
+    pub edge_heat: u32,
+}
+
+/// How the branches of a tree go on.
+#[derive(Clone, Copy)]
+enum Shape {
+    /// Branchings with this chance in a hundred, at any level.
+    Spread(u64),
+    /// A branching in the first branch down to this level.
+    First(u32),
+    /// A branching in the second branch down to this level.
+    Second(u32),
+    /// A branching in either branch down to this level.
+    Either(u32),
+}
+
+/// Makes one valid study.
+pub struct Maker<'a> {
+    random: &'a mut Random,
+    targets: Vec<Facts>,
+    records: Vec<Record>,
+    leaks: u64,
+    /// At most this many effects an outcome.
+    most_effects: u64,
+}
+
+/// A valid study, its closing included.
+pub fn valid(random: &mut Random) -> Vec<Record> {
+    let most_effects = random.pick(&[1, 2, 3, 3, 8, 8, 256]);
+    let mut maker = Maker {
+        random,
+        targets: Vec::new(),
+        records: Vec::new(),
+        leaks: 0,
+        most_effects,
+    };
+    maker.study();
+    maker.records
+}
+
+impl Maker<'_> {
+    fn study(&mut self) {
+        let number = self.random.any_size(32) as u32;
+        self.records.push(opening(number));
+        self.declare_targets();
+        let scenarios = match self.random.below(10) {
+            0 => 0,
+            1..=6 => self.random.between(1, 2),
+            7 | 8 => self.random.between(3, 6),
+            _ => self.random.between(7, 20),
+        };
+        let mut next = match self.random.below(4) {
+            0 => 0,
+            1 => 1,
+            _ => self.random.any_size(31),
+        };
+        for left in (0..scenarios).rev() {
+            if left == 0 && self.random.percent(5) {
+                next = u64::from(u32::MAX);
+            }
+            self.scenario(next as u32);
+            next += 1 + self.random.pick(&[0, 0, 0, 1, 255, 65_536]);
+        }
+        let count = self.records.len() as u32 + 1;
+        self.records.push(closing(count, self.leaks));
+    }
+
+    fn declare_targets(&mut self) {
+        let count = match self.random.below(100) {
+            0..=9 => 0,
+            10..=24 => 1,
+            25..=74 => self.random.between(2, 8),
+            75..=96 => self.random.between(9, 30),
+            97 | 98 => self.random.between(31, 255),
+            _ => 256,
+        };
+        for number in 0..count {
+            let class = self.random.below(6) as u8;
+            let setting = if class == 0 {
+                self.random.below(3) as u8
+            } else {
+                0
+            };
+            let (volume, edge_heat) = match class {
+                1 | 5 if self.random.percent(50) => edge_volume(self.random),
+                _ => (self.volume(), 0),
+            };
+            self.targets.push(Facts {
+                class,
+                setting,
+                volume,
+                edge_heat,
+            });
+            self.records
+                .push(target(number as u16, class, setting, volume));
+        }
+    }
+
+    fn volume(&mut self) -> u32 {
+        match self.random.below(3) {
+            0 => self
+                .random
+                .pick(&[0, 0, 1, 2, 500, 1_000, 20_000, 99_999, 100_000]),
+            1 => self.random.between(0, 100_000) as u32,
+            _ => self.random.any_size(16) as u32,
+        }
+    }
+
+    fn scenario(&mut self, number: u32) {
+        let frequency = frequency(self.random);
+        self.leaks += frequency;
+        self.records.push(leak(number, frequency));
+        let level = self.random.between(1, 8) as u32;
+        let shape = match self.random.below(10) {
+            0..=4 => Shape::Spread(self.random.pick(&[0, 20, 40, 50])),
+            5 => Shape::Spread(60),
+            6 => Shape::First(level),
+            7 => Shape::Second(level),
+            _ => Shape::Either(level),
+        };
+        self.tree(shape, 0);
+    }
+
+    /// A tree with this many branchings above it.
+    fn tree(&mut self, shape: Shape, above: u32) {
+        let branches = match shape {
+            Shape::Spread(percent) => above < 8 && self.random.percent(percent),
+            Shape::First(level) | Shape::Second(level) | Shape::Either(level) => above < level,
+        };
+        if !branches {
+            self.outcome();
+            return;
+        }
+        let chance = chance_of_branch(self.random);
+        self.records.push(branching(chance));
+        let first = match shape {
+            Shape::Spread(_) => {
+                self.tree(shape, above + 1);
+                self.tree(shape, above + 1);
+                return;
+            }
+            Shape::First(_) => true,
+            Shape::Second(_) => false,
+            Shape::Either(_) => self.random.percent(50),
+        };
+        if first {
+            self.tree(shape, above + 1);
+            self.outcome();
+        } else {
+            self.outcome();
+            self.tree(shape, above + 1);
+        }
+    }
+
+    fn outcome(&mut self) {
+        let kind = self.random.below(6) as u8;
+        let named = if kind == outcome::NO_EFFECT {
+            Vec::new()
+        } else {
+            self.named_targets()
+        };
+        self.records.push(outcome(kind, named.len() as u16));
+        for number in named {
+            let facts = self.targets[usize::from(number)];
+            let (intensity, duration) = effect_values(self.random, kind, facts);
+            self.records.push(effect(number, intensity, duration));
+        }
+    }
+
+    /// Some of the targets, rising.
+    fn named_targets(&mut self) -> Vec<u16> {
+        let count = self.targets.len() as u64;
+        let wanted = self.random.between(0, self.most_effects.min(count));
+        let mut left = wanted;
+        let mut named = Vec::new();
+        for number in 0..count {
+            if self.random.below(count - number) < left {
+                named.push(number as u16);
+                left -= 1;
+            }
+        }
+        named
+    }
+}
+
+/// A leak's frequency, odd ones and those around the limits.
+pub fn frequency(random: &mut Random) -> u64 {
+    let frequency = match random.below(6) {
+        0 => random.pick(&[1, 2, 3, 7, 10_000_000_000_000, 9_999_999_999_999]),
+        1 => random.pick(&[9_999_999, 10_000_000, 10_000_001]),
+        2 => 10u64.pow(random.below(13) as u32 + 1) + random.below(3) - 1,
+        3 => random.between(1, 10_000_000_000_000),
+        _ => random.any_size(43),
+    };
+    frequency.clamp(1, 10_000_000_000_000)
+}
+
+pub fn chance_of_branch(random: &mut Random) -> u32 {
+    match random.below(3) {
+        0 => random.pick(&[0, 1, 2, 500_000, 333_333, 999_998, 999_999, 1_000_000]),
+        1 => random.between(0, 1_000_000) as u32,
+        _ => random.any_size(19) as u32,
+    }
+}
+
+/// Intensity and duration of a valid effect.
+pub fn effect_values(random: &mut Random, kind: u8, facts: Facts) -> (u32, u16) {
+    match kind {
+        outcome::FLASH_FIRE => (random.below(2) as u32, 0),
+        outcome::EXPLOSION => (overpressure(random, facts), 0),
+        _ if facts.edge_heat > 0 && random.percent(40) => {
+            (facts.edge_heat, random.pick(&[601, 602, 4_632, 65_535]))
+        }
+        _ => {
+            let duration = duration(random, facts);
+            (heat(random, facts, duration), duration)
+        }
+    }
+}
+
+fn duration(random: &mut Random, facts: Facts) -> u16 {
+    match random.below(4) {
+        0 => random.between(1, 22) as u16,
+        1 => random.pick(&[1, 19, 20, 21, 599, 600, 601, 602, 4_632, 65_535]),
+        2 if facts.class != 0 => random.between(595, 700) as u16,
+        _ => random.between(1, 65_535) as u16,
+    }
+}
+
+fn heat(random: &mut Random, facts: Facts, duration: u16) -> u32 {
+    match (random.below(6), facts.class) {
+        (0, 0) => random.pick(&[0, 1, 2, 3, 34_999, 35_000, 35_001]),
+        (0, _) => random.pick(&[0, 1, 14_999, 15_000, 15_001, 15_002]),
+        (1, _) => random.between(0, 40_000) as u32,
+        (2, _) => step_value(random),
+        (3, _) => random.any_size(32) as u32,
+        (_, 0) => edge_of_chance(random, |heat| {
+            probit::chance(chance::fire_death_probit(heat, duration))
+        }),
+        _ => {
+            let volume = chance::volume_term(facts.volume);
+            edge_of_chance(random, |heat| {
+                probit::chance(chance::fire_damage_probit(heat, volume))
+            })
+        }
+    }
+}
+
+/// The overpressure from which each class is damaged.
+const DAMAGING: [u64; 6] = [10_000, 5_170, 30_000, 17_000, 18_700, 30_000];
+
+fn overpressure(random: &mut Random, facts: Facts) -> u32 {
+    let threshold = DAMAGING[usize::from(facts.class)];
+    match (random.below(6), facts.class) {
+        (0, _) => (threshold + random.below(3) - 1) as u32,
+        (1, _) => random.between(0, 200_000) as u32,
+        (2, _) => step_value(random),
+        (3, _) => random.any_size(32) as u32,
+        (_, 0) => random.pick(&[0, 9_999, 10_000, 29_999, 30_000, 30_001]),
+        (4, 1) => random.between(66_000, 71_000) as u32,
+        (_, class) => edge_of_chance(random, |pressure| chance::blast_damage(class, pressure)),
+    }
+}
+
+/// The least number of a step of the logarithm, or a neighbour.
+fn step_value(random: &mut Random) -> u32 {
+    let mantissa = u64::from(random.pick(&THRESHOLDS));
+    let octave = random.pick(&[14, 15, 16, 17, 12, 31]);
+    let least = mantissa.div_ceil(1 << (31 - octave));
+    (least + random.below(3) - 1).min(u64::from(u32::MAX)) as u32
+}
+
+/// A volume and a heat at which the probit of damage by fire is exactly an
+/// entry of the table, or one millionth less.
+fn edge_volume(random: &mut Random) -> (u32, u32) {
+    for _ in 0..100 {
+        let heat = random.between(15_001, 400_000) as u32;
+        let entry = random.between(267, 809) as i64 * 10_000;
+        if probit::chance(entry) == probit::chance(entry - 1) {
+            continue;
+        }
+        let needed = entry - chance::fire_damage_probit(heat, 0);
+        let Ok(needed @ 1..=4_925_949) = u64::try_from(needed) else {
+            continue;
+        };
+        let volume = (needed * 100_000).div_ceil(4_925_949) as u32;
+        let term = |volume| u64::from(chance::volume_term(volume));
+        if term(volume) == needed {
+            return (volume, heat);
+        }
+        if term(volume - 1) == needed - 1 {
+            return (volume - 1, heat);
+        }
+    }
+    (random.between(0, 100_000) as u32, 0)
+}
+
+/// The least value at which the chance, rising with it, reaches a random
+/// percentage, or a neighbour.
+fn edge_of_chance(random: &mut Random, chance: impl Fn(u32) -> u32) -> u32 {
+    let wanted = if random.percent(20) {
+        random.between(991, 999) as u32 * 1_000
+    } else {
+        random.between(1, 100) as u32 * 10_000
+    };
+    let (mut low, mut high) = (0, u32::MAX);
+    while low < high {
+        let middle = low + (high - low) / 2;
+        if chance(middle) >= wanted {
+            high = middle;
+        } else {
+            low = middle + 1;
+        }
+    }
+    low.saturating_add(random.below(3) as u32).saturating_sub(1)
+}

@@ -1,0 +1,246 @@
+//! Chances of death and damage, in millionths.
+
+use crate::logarithm::log;
+use crate::probit;
+
+/// A chance of one.
+pub const CERTAIN: u32 = 1_000_000;
+
+/// Classes of target.
+pub mod class {
+    pub const PEOPLE: u8 = 0;
+    pub const ATMOSPHERIC_VESSEL: u8 = 1;
+    pub const PRESSURISED_VESSEL: u8 = 2;
+    pub const TOWER: u8 = 3;
+    pub const PUMP: u8 = 4;
+    pub const PIPE: u8 = 5;
+}
+
+/// Settings of a place of people.
+pub mod setting {
+    pub const INDIVIDUAL: u8 = 0;
+    pub const OUTDOORS: u8 = 1;
+    pub const INDOORS: u8 = 2;
+}
+
+/// The natural logarithm of 2, in millionths.
+const LN_2: u64 = 693_147;
+
+/// Heat from which death is certain.
+const DEADLY_HEAT: u32 = 35_000;
+/// The longest time a person stays in the heat.
+const LONGEST_EXPOSURE: u16 = 20;
+/// Overpressure from which death is certain.
+const DEADLY_BLAST: u32 = 30_000;
+/// Overpressure from which people indoors are at risk, and their chance.
+const INDOOR_BLAST: u32 = 10_000;
+const INDOOR_BLAST_CHANCE: u32 = 25_000;
+/// Equipment fails by fire above this heat and for longer than this time.
+const DAMAGING_HEAT: u32 = 15_000;
+const DAMAGING_TIME: u16 = 600;
+
+/// Probit of death by fire: heat of at least 1 W/m², duration of at least 1 s.
+#[inline]
+pub fn fire_death_probit(heat: u32, duration: u16) -> i64 {
+    let exposure = u32::from(duration.min(LONGEST_EXPOSURE));
+    let steps = u64::from(4 * log(heat) + 3 * log(exposure));
+    (steps * LN_2 / 300) as i64 - 36_380_000
+}
+
+/// Chance of death by pool fire, jet fire or fireball.
+#[inline]
+pub fn fire_death(setting: u8, heat: u32, duration: u16) -> u32 {
+    if heat >= DEADLY_HEAT {
+        return CERTAIN;
+    }
+    if setting == setting::INDOORS || heat == 0 {
+        return 0;
+    }
+    let chance = probit::chance(fire_death_probit(heat, duration));
+    if setting == setting::OUTDOORS {
+        chance * 14 / 100
+    } else {
+        chance
+    }
+}
+
+/// Chance of death by flash fire: intensity 1 is inside the lower flammable limit.
+#[inline]
+pub fn flash_death(intensity: u32) -> u32 {
+    if intensity == 1 { CERTAIN } else { 0 }
+}
+
+/// Chance of death by explosion.
+#[inline]
+pub fn blast_death(setting: u8, overpressure: u32) -> u32 {
+    if overpressure >= DEADLY_BLAST {
+        CERTAIN
+    } else if setting == setting::INDOORS && overpressure >= INDOOR_BLAST {
+        INDOOR_BLAST_CHANCE
+    } else {
+        0
+    }
+}
+
+/// A row of table D.2 for overpressure.
+struct Blast {
+    a: i64,
+    b: u64,
+    threshold: u32,
+}
+
+const VESSEL_OR_PIPE_BLAST: Blast = Blast {
+    a: -14_440_000,
+    b: 182,
+    threshold: 30_000,
+};
+
+/// Rows by class, from class 1 on.
+static BLAST: [Blast; 5] = [
+    Blast {
+        a: -9_360_000,
+        b: 134,
+        threshold: 5_170,
+    },
+    VESSEL_OR_PIPE_BLAST,
+    Blast {
+        a: -12_220_000,
+        b: 165,
+        threshold: 17_000,
+    },
+    Blast {
+        a: -12_420_000,
+        b: 164,
+        threshold: 18_700,
+    },
+    VESSEL_OR_PIPE_BLAST,
+];
+
+/// Probit of damage by explosion at or above the class's threshold, for
+/// classes 1 to 5; none below it or for other classes.
+#[inline]
+pub fn blast_damage_probit(class: u8, overpressure: u32) -> Option<i64> {
+    let row = BLAST.get(usize::from(class).checked_sub(1)?)?;
+    if overpressure < row.threshold {
+        return None;
+    }
+    let rise = row.b * u64::from(log(overpressure)) * LN_2 / 25_600;
+    Some(row.a + rise as i64)
+}
+
+/// Chance of damage by explosion for classes 1 to 5.
+#[inline]
+pub fn blast_damage(class: u8, overpressure: u32) -> u32 {
+    blast_damage_probit(class, overpressure).map_or(0, probit::chance)
+}
+
+/// What a volume adds to the probit of damage by fire.
+#[inline]
+pub fn volume_term(volume: u32) -> u32 {
+    (4_925_949 * u64::from(volume) / 100_000) as u32
+}
+
+/// Probit of damage by fire for classes 1 and 5.
+#[inline]
+pub fn fire_damage_probit(heat: u32, volume_term: u32) -> i64 {
+    let rise = 2_083_416 * u64::from(log(heat)) * LN_2 / 256_000_000;
+    -20_094_547 + rise as i64 + i64::from(volume_term)
+}
+
+/// Chance of damage by fire for classes 1 and 5.
+#[inline]
+pub fn fire_damage(volume_term: u32, heat: u32, duration: u16) -> u32 {
+    if heat > DAMAGING_HEAT && duration > DAMAGING_TIME {
+        probit::chance(fire_damage_probit(heat, volume_term))
+    } else {
+        0
+    }
+}
+
+/// Whether a fire on this class is left unjudged.
+#[inline]
+pub fn unjudged_in_fire(class: u8) -> bool {
+    matches!(
+        class,
+        class::PRESSURISED_VESSEL | class::TOWER | class::PUMP
+    )
+}
+
+#[cfg(test)]
+mod tests {
+    use super::*;
+
+    #[test]
+    fn fire_and_people() {
+        assert_eq!(fire_death_probit(12_500, 20), 3_485_194);
+        assert_eq!(fire_death(setting::INDIVIDUAL, 12_500, 20), 60_000);
+        assert_eq!(fire_death(setting::INDIVIDUAL, 12_500, 65_535), 60_000);
+        assert_eq!(fire_death(setting::OUTDOORS, 12_500, 20), 8_400);
+        assert_eq!(fire_death(setting::INDOORS, 12_500, 20), 0);
+        assert_eq!(fire_death_probit(34_999, 20), 6_997_139);
+        assert_eq!(fire_death(setting::INDIVIDUAL, 34_999, 20), 970_000);
+        assert_eq!(fire_death(setting::INDOORS, 34_999, 20), 0);
+        for setting in 0..3 {
+            assert_eq!(fire_death(setting, 35_000, 1), CERTAIN);
+            assert_eq!(fire_death(setting, u32::MAX, 1), CERTAIN);
+            assert_eq!(fire_death(setting, 0, 20), 0);
+            assert_eq!(fire_death(setting, 1, 1), 0);
+        }
+    }
+
+    #[test]
+    fn blast_and_people() {
+        for setting in 0..3 {
+            assert_eq!(blast_death(setting, 9_999), 0);
+            assert_eq!(blast_death(setting, 30_000), CERTAIN);
+        }
+        assert_eq!(blast_death(setting::INDOORS, 10_000), 25_000);
+        assert_eq!(blast_death(setting::INDOORS, 29_999), 25_000);
+        assert_eq!(blast_death(setting::OUTDOORS, 29_999), 0);
+        assert_eq!(blast_death(setting::INDIVIDUAL, 29_999), 0);
+    }
+
+    #[test]
+    fn blast_and_equipment() {
+        assert_eq!(blast_damage_probit(1, 67_000), Some(5_530_097));
+        assert_eq!(blast_damage(1, 67_000), 700_000);
+        assert_eq!(blast_damage_probit(1, 70_000), Some(5_588_148));
+        assert_eq!(blast_damage(1, 70_000), 720_000);
+        assert_eq!(blast_damage(2, 29_999), 0);
+        assert_eq!(blast_damage_probit(2, 30_000), Some(4_320_294));
+        assert_eq!(blast_damage(2, 30_000), 240_000);
+        for (class, threshold) in [
+            (1, 5_170),
+            (2, 30_000),
+            (3, 17_000),
+            (4, 18_700),
+            (5, 30_000),
+        ] {
+            assert_eq!(blast_damage_probit(class, threshold - 1), None);
+            assert!(blast_damage_probit(class, threshold).is_some());
+        }
+        assert_eq!(blast_damage(5, 30_000), 240_000);
+        assert_eq!(blast_damage_probit(0, 70_000), None);
+        assert_eq!(blast_damage_probit(6, 70_000), None);
+    }
+
+    #[test]
+    fn fire_and_equipment() {
+        assert_eq!(fire_damage(volume_term(100_000), 15_000, u16::MAX), 0);
+        assert_eq!(fire_damage(0, u32::MAX, 600), 0);
+        assert_eq!(fire_damage(0, u32::MAX, 601), 999_000);
+        assert_eq!(volume_term(100_000), 4_925_949);
+        assert_eq!(volume_term(1), 49);
+        // 15,001 W/m²: L is 3,551.
+        assert_eq!(log(15_001), 3_551);
+        assert_eq!(fire_damage_probit(15_001, 0), -63_113);
+        assert_eq!(fire_damage(volume_term(100_000), 15_001, 601), 440_000);
+    }
+
+    #[test]
+    fn flash_fire_and_classes() {
+        assert_eq!([flash_death(0), flash_death(1)], [0, CERTAIN]);
+        let unjudged = (0..6).filter(|&class| unjudged_in_fire(class));
+        assert_eq!(unjudged.collect::<Vec<_>>(), [2, 3, 4]);
+    }
+}
