@@ -1,4 +1,5 @@
 -- `rows::judge_effect` meets its contract. Assumes nothing.
+use mathlib.Core.Path.{refl}
 use borrow.Author.Needs.{needs}
 use Rattle.rows.proofs.judge_effect.Statement.{statement}
 use Rattle.rows.proofs.judge_effect.Tie as tie
@@ -10,7 +11,7 @@ effect-requires : tie.Need-effect-requires
 effect-requires c κs = search needs
 
 returns : tie.Need-returns
-returns c = rw (← c .before .unpack-facts .ensures) (c .effect .ensures)
+returns c = rw (c .effect .ensures, c .before .unpack-facts .ensures) refl
 
 pub judge-effect-spec : {M : Type 1} → statement M
 judge-effect-spec = tie.close (tie.spec unpack-facts-requires effect-requires returns)

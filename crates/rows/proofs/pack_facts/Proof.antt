@@ -1,4 +1,5 @@
 -- `rows::pack_facts` meets its contract. Assumes nothing.
+use mathlib.Core.Path.{refl}
 use Rattle.model.specs.Machine.{packedFacts}
 use borrow.Author.Needs.{needs}
 use Rattle.rows.proofs.pack_facts.Statement.{statement}
@@ -30,7 +31,7 @@ add-result-2 c = search needs
 
 returns : tie.Need-returns
 unfolding packedFacts
-returns c = cc
+returns c = refl
 
 pub pack-facts-spec : {M : Type 1} → statement M
 pack-facts-spec =

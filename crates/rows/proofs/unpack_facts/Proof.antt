@@ -1,4 +1,5 @@
 -- `rows::unpack_facts` meets its contract. Assumes nothing.
+use mathlib.Core.Path.{refl}
 use Rattle.model.specs.Machine.{unpackedFacts}
 use borrow.Author.Needs.{needs}
 use Rattle.rows.proofs.unpack_facts.Statement.{statement}
@@ -15,7 +16,7 @@ cast-t10 c = search needs
 
 returns : tie.Need-returns
 unfolding unpackedFacts
-returns c = cc
+returns c = refl
 
 pub unpack-facts-spec : {M : Type 1} → statement M
 unpack-facts-spec = tie.close (tie.spec cast-t4 cast-t7 cast-t10 returns)

@@ -1,4 +1,5 @@
 -- `taking::take_opening` meets its contract. Assumes nothing.
+use mathlib.Core.Path.{refl}
 use borrow.Author.Needs.{needs}
 use Rattle.taking.proofs.take_opening.Statement.{statement}
 use Rattle.taking.proofs.take_opening.Tie as tie
@@ -10,7 +11,7 @@ core-opening-requires : tie.Need-core-opening-requires
 core-opening-requires c κs = search needs
 
 returns : tie.Need-returns
-returns c = rw (← c .before .word-at-1 .ensures) (c .core-opening .ensures)
+returns c = rw (c .core-opening .ensures, c .before .word-at-1 .ensures) refl
 
 pub take-opening-spec : {M : Type 1} → statement M
 take-opening-spec = tie.close (tie.spec word-at-1-requires core-opening-requires returns)

@@ -1,4 +1,5 @@
 -- `targets::judged_of` meets its contract. Assumes nothing.
+use mathlib.Core.Path.{refl}
 use borrow.Author.Needs.{needs}
 use Rattle.targets.proofs.judged_of.Statement.{statement}
 use Rattle.targets.proofs.judged_of.Tie as tie
@@ -20,10 +21,14 @@ judge-effect-requires c κs = search needs
 
 returns : tie.Need-returns
 returns c =
-    let target = c .before .before .before .before .half-at-1 .ensures in
-    let intensity = c .before .before .before .word-at-3 .ensures in
-    let duration = c .before .before .half-at-7 .ensures in
-    rw (← target, ← intensity, ← duration, ← c .before .fetch64 .ensures) (c .judge-effect .ensures)
+    rw (
+      c .judge-effect .ensures,
+      c .before .fetch64 .ensures,
+      c .before .before .before .before .half-at-1 .ensures,
+      c .before .before .before .word-at-3 .ensures,
+      c .before .before .half-at-7 .ensures,
+    )
+    refl
 
 pub judged-of-spec : {M : Type 1} → statement M
 judged-of-spec =

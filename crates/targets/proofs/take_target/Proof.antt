@@ -1,4 +1,5 @@
 -- `targets::take_target` meets its contract. Assumes nothing.
+use mathlib.Core.Path.{refl}
 use borrow.Author.Needs.{needs}
 use Rattle.targets.proofs.take_target.Statement.{statement}
 use Rattle.targets.proofs.take_target.Tie as tie
@@ -17,9 +18,7 @@ core-target-requires c κs = search needs
 
 returns : tie.Need-returns
 returns c =
-    let known = c .before .before .before .before .before .facts .ensures in
-    let packed = c .before .before .pack-facts .ensures in
-    (c .core-target .ensures, rw (← known, ← packed) (c .before .put64 .ensures))
+    (c .core-target .ensures, rw (c .before .put64 .ensures, c .before .before .pack-facts .ensures, c .before .before .before .before .before .facts .ensures) refl)
 
 pub take-target-spec : {M : Type 1} → statement M
 take-target-spec =

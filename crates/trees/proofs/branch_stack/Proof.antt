@@ -1,4 +1,5 @@
 -- `trees::branch_stack` meets its contract. Assumes nothing.
+use mathlib.Core.Path.{refl}
 use Rattle.model.specs.Machine.{branchStack}
 use borrow.Author.Needs.{needs}
 use Rattle.trees.proofs.branch_stack.Statement.{statement}
@@ -22,10 +23,15 @@ put-tree-requires-2 c κs = search needs
 returns : tie.Need-returns
 unfolding branchStack
 returns c =
-    let tree = c .before .before .before .before .before .before .next-tree .ensures in
-    let both = c .before .before .before .before .before .pack-branches .ensures in
-    let below = c .before .before .before .one-less .ensures in
-    rw (← tree, ← both .0, ← both .1, ← below, ← c .before .before .put-tree .ensures) (c .put-tree2 .ensures)
+    rw (
+      c .put-tree2 .ensures,
+      c .before .before .put-tree .ensures,
+      c .before .before .before .one-less .ensures,
+      c .before .before .before .before .before .pack-branches .ensures .0,
+      c .before .before .before .before .before .pack-branches .ensures .1,
+      c .before .before .before .before .before .before .next-tree .ensures,
+    )
+    refl
 
 pub branch-stack-spec : {M : Type 1} → statement M
 branch-stack-spec =

@@ -1,4 +1,5 @@
 -- `trees::pack_branches` meets its contract. Assumes nothing.
+use mathlib.Core.Path.{refl}
 use borrow.Author.Needs.{needs}
 use Rattle.trees.proofs.pack_branches.Statement.{statement}
 use Rattle.trees.proofs.pack_branches.Tie as tie
@@ -20,8 +21,7 @@ pack-requires-2 c κs = search needs
 
 returns : tie.Need-returns
 returns c =
-    let both = c .before .before .split .ensures in
-    (rw (← both) (c .before .pack .ensures), rw (← both) (c .pack2 .ensures))
+    (rw (c .before .pack .ensures, c .before .before .split .ensures) refl, rw (c .pack2 .ensures, c .before .before .split .ensures) refl)
 
 pub pack-branches-spec : {M : Type 1} → statement M
 pack-branches-spec =

@@ -1,4 +1,5 @@
 -- `trees::take_branching` meets its contract. Assumes nothing.
+use mathlib.Core.Path.{refl}
 use borrow.Author.Needs.{needs}
 use Rattle.trees.proofs.take_branching.Statement.{statement}
 use Rattle.trees.proofs.take_branching.Tie as tie
@@ -13,7 +14,7 @@ core-branching-requires : tie.Need-core-branching-requires
 core-branching-requires c κs = search needs
 
 returns : tie.Need-returns
-returns c = (c .core-branching .ensures, rw (← c .before .before .before .before .word-at-1 .ensures) (c .before .branch-stack .ensures))
+returns c = (c .core-branching .ensures, rw (c .before .branch-stack .ensures, c .before .before .before .before .word-at-1 .ensures) refl)
 
 pub take-branching-spec : {M : Type 1} → statement M
 take-branching-spec =

@@ -1,4 +1,5 @@
 -- `trees::take_leak` meets its contract. Assumes nothing.
+use mathlib.Core.Path.{refl}
 use Rattle.model.specs.Machine.{leakStack}
 use borrow.Author.Needs.{needs}
 use Rattle.trees.proofs.take_leak.Statement.{statement}
@@ -21,11 +22,20 @@ core-leak-requires c κs = search needs
 
 returns : tie.Need-returns
 unfolding leakStack
-returns c =
-    let number = c .before .before .before .before .before .word-at-1 .ensures in
-    let frequency = c .before .before .before .before .long-at-5 .ensures in
-    let tree = c .before .before .pack .ensures in
-    (rw (← number, ← frequency) (c .core-leak .ensures), rw (← frequency, ← tree) (c .before .put-tree .ensures))
+returns c = (
+  rw (
+    c .core-leak .ensures,
+    c .before .before .before .before .before .word-at-1 .ensures,
+    c .before .before .before .before .long-at-5 .ensures,
+  )
+      refl,
+  rw (
+    c .before .put-tree .ensures,
+    c .before .before .pack .ensures,
+    c .before .before .before .before .long-at-5 .ensures,
+  )
+      refl,
+)
 
 pub take-leak-spec : {M : Type 1} → statement M
 take-leak-spec =

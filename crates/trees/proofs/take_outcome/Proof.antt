@@ -1,4 +1,5 @@
 -- `trees::take_outcome` meets its contract. Assumes nothing.
+use mathlib.Core.Path.{refl}
 use borrow.Author.Needs.{needs}
 use Rattle.trees.proofs.take_outcome.Statement.{statement}
 use Rattle.trees.proofs.take_outcome.Tie as tie
@@ -17,10 +18,13 @@ core-outcome-requires c κs = search needs
 
 returns : tie.Need-returns
 returns c =
-    let tree = c .before .next-tree .ensures in
-    let effects = c .before .before .before .half-at-2 .ensures in
-    let kind = c .before .before .before .before .byte-at-1 .ensures in
-    rw (← tree, ← effects, ← kind) (c .core-outcome .ensures)
+    rw (
+      c .core-outcome .ensures,
+      c .before .next-tree .ensures,
+      c .before .before .before .half-at-2 .ensures,
+      c .before .before .before .before .byte-at-1 .ensures,
+    )
+    refl
 
 pub take-outcome-spec : {M : Type 1} → statement M
 take-outcome-spec =
