@@ -1,0 +1,18 @@
+-- `linked::kalliphrax_sum_at` meets its contract. Assumes nothing.
+use mathlib.Core.Path.{ap}
+use Rattle.state.specs.declared.TargetReport.{TargetReport}
+use borrow.Author.Needs.{needs}
+use Rattle.linked.proofs.kalliphrax_sum_at.Statement.{statement}
+use Rattle.linked.proofs.kalliphrax_sum_at.Tie as tie
+
+read-in-pieces-requires : tie.Need-read-in-pieces-requires
+read-in-pieces-requires c κs = search needs
+
+target-requires : tie.Need-target-requires
+target-requires c κs = search needs
+
+returns : tie.Need-returns
+returns c = rw (← c .before .read-in-pieces .ensures) (ap (λ (r : TargetReport). r .sum) (c .target .ensures))
+
+pub kalliphrax-sum-at-spec : {M : Type 1} → statement M
+kalliphrax-sum-at-spec = tie.close (tie.spec read-in-pieces-requires target-requires returns)
