@@ -1,2 +1,2 @@
 pub mod Laws
-pub mod Thresholds
+pub mod TableSteps

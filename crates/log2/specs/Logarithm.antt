@@ -28,19 +28,19 @@ pub record Threshold (k x : ℕ) : Type 0 where
   pub reaches : 2 ^ (31 * 256 + k) ≤ x ^ 256
   pub least : (m : ℕ) → 2 ^ (31 * 256 + k) ≤ m ^ 256 → x ≤ m
 
--- sixteen thresholds: of the step a, and then of each dth step
-unfoldable pub Thresholds : ℕ → ℕ → List ℕ → Type 0
-Thresholds a d l = (j : ℕ) → j < 16 → Threshold (a + d * j) (getD l j 0)
+-- a table with the threshold of each step
+unfoldable pub Thresholds : List ℕ → Type 0
+Thresholds l = (k : ℕ) → k < 256 → Threshold k (getD l k 0)
 
--- of sixteen numbers none is above a later one
+-- no entry is above a later one
 unfoldable pub Rising : List ℕ → Type 0
-Rising l = (i j : ℕ) → i ≤ j → j < 16 → getD l i 0 ≤ getD l j 0
+Rising l = (i j : ℕ) → i ≤ j → j < 256 → getD l i 0 ≤ getD l j 0
 
--- m reaches the first n of sixteen rising numbers, and no more
-pub record Reached (l : List ℕ) (m n : ℕ) : Type 0 where
+-- of sixteen entries, at a and then each d places on, m reaches the first n and no more
+pub record Reached (l : List ℕ) (a d m n : ℕ) : Type 0 where
   pub within : n ≤ 16
-  pub last : 0 < n → getD l (n - 1) 0 ≤ m
-  pub next : n < 16 → m < getD l n 0
+  pub last : 0 < n → getD l (a + d * (n - 1)) 0 ≤ m
+  pub next : n < 16 → m < getD l (a + d * n) 0
 
 -- a mantissa, at least 2^31 and below 2^32, lies at a step of its octave
 pub record StepOf (m k : ℕ) : Type 0 where

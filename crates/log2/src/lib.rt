@@ -1,11 +1,10 @@
 // The logarithm to base 2 in steps of a 256th (document 01's L), by a table of thresholds.
 ghost use mathlib.Core.Path.{_≡_};
-ghost use Prim.Native.Nat.{_*_, _<_, _≤_, _^_};
+ghost use Prim.Native.Nat.{_+_, _*_, _<_, _≤_, _^_};
 ghost use Rattle.log2.specs.Logarithm.{logarithm, Thresholds, Rising, Reached, StepOf};
 
-// For each step k of the octave from 2^31 on, the least mantissa whose 256th power reaches 2^(31 * 256 + k): sixteen rows of sixteen. A
-// constant array is copied where it is read, so a table of one piece would be copied whole at each look.
-const ROW_0: [u32; 16] = [
+// For each step k of the octave from 2^31 on, the least mantissa whose 256th power reaches 2^(31 * 256 + k).
+const THRESHOLDS: [u32; 256] = [
     2147483648,
     2153306067,
     2159144272,
@@ -22,9 +21,6 @@ const ROW_0: [u32; 16] = [
     2224418740,
     2230449751,
     2236497113,
-];
-
-const ROW_1: [u32; 16] = [
     2242560872,
     2248641072,
     2254737756,
@@ -41,9 +37,6 @@ const ROW_1: [u32; 16] = [
     2322902171,
     2329200198,
     2335515300,
-];
-
-const ROW_2: [u32; 16] = [
     2341847524,
     2348196917,
     2354563525,
@@ -60,9 +53,6 @@ const ROW_2: [u32; 16] = [
     2425745836,
     2432322700,
     2438917396,
-];
-
-const ROW_3: [u32; 16] = [
     2445529972,
     2452160477,
     2458808958,
@@ -79,9 +69,6 @@ const ROW_3: [u32; 16] = [
     2533142780,
     2540010826,
     2546897494,
-];
-
-const ROW_4: [u32; 16] = [
     2553802834,
     2560726896,
     2567669731,
@@ -98,9 +85,6 @@ const ROW_4: [u32; 16] = [
     2645294592,
     2652466713,
     2659658280,
-];
-
-const ROW_5: [u32; 16] = [
     2666869345,
     2674099961,
     2681350182,
@@ -117,9 +101,6 @@ const ROW_5: [u32; 16] = [
     2762411789,
     2769901447,
     2777411412,
-];
-
-const ROW_6: [u32; 16] = [
     2784941738,
     2792492481,
     2800063696,
@@ -136,9 +117,6 @@ const ROW_6: [u32; 16] = [
     2884714208,
     2892535461,
     2900377920,
-];
-
-const ROW_7: [u32; 16] = [
     2908241643,
     2916126686,
     2924033107,
@@ -155,9 +133,6 @@ const ROW_7: [u32; 16] = [
     3012431417,
     3020598947,
     3028788621,
-];
-
-const ROW_8: [u32; 16] = [
     3037000500,
     3045234644,
     3053491113,
@@ -174,9 +149,6 @@ const ROW_8: [u32; 16] = [
     3145803150,
     3154332287,
     3162884550,
-];
-
-const ROW_9: [u32; 16] = [
     3171460000,
     3180058700,
     3188680714,
@@ -193,9 +165,6 @@ const ROW_9: [u32; 16] = [
     3285079754,
     3293986509,
     3302917412,
-];
-
-const ROW_10: [u32; 16] = [
     3311872530,
     3320851927,
     3329855670,
@@ -212,9 +181,6 @@ const ROW_10: [u32; 16] = [
     3430522660,
     3439823751,
     3449150059,
-];
-
-const ROW_11: [u32; 16] = [
     3458501654,
     3467878603,
     3477280976,
@@ -231,9 +197,6 @@ const ROW_11: [u32; 16] = [
     3582404874,
     3592117759,
     3601856978,
-];
-
-const ROW_12: [u32; 16] = [
     3611622603,
     3621414706,
     3631233357,
@@ -250,9 +213,6 @@ const ROW_12: [u32; 16] = [
     3741011488,
     3751154399,
     3761324811,
-];
-
-const ROW_13: [u32; 16] = [
     3771522797,
     3781748432,
     3792001792,
@@ -269,9 +229,6 @@ const ROW_13: [u32; 16] = [
     3906640217,
     3917232193,
     3927852887,
-];
-
-const ROW_14: [u32; 16] = [
     3938502376,
     3949180740,
     3959888055,
@@ -288,9 +245,6 @@ const ROW_14: [u32; 16] = [
     4079601956,
     4090662879,
     4101753791,
-];
-
-const ROW_15: [u32; 16] = [
     4112874774,
     4124025908,
     4135207277,
@@ -309,66 +263,22 @@ const ROW_15: [u32; 16] = [
     4283353946,
 ];
 
-// The first threshold of each row.
-const HEADS: [u32; 16] = [
-    2147483648,
-    2242560872,
-    2341847524,
-    2445529972,
-    2553802834,
-    2666869345,
-    2784941738,
-    2908241643,
-    3037000500,
-    3171460000,
-    3311872530,
-    3458501654,
-    3611622603,
-    3771522797,
-    3938502376,
-    4112874774,
-];
-
-// The thresholds of the steps 16 i to 16 i + 15.
-fn row(i: usize) -> [u32; 16]
-    requires { ⌜ i < 16 ⌝ }
-    ensures { λ r. ⌜ Thresholds (16 * i) 1 r ⌝ }
+// The table, as it is searched.
+fn thresholds() -> [u32; 256]
+    ensures { λ r. ⌜ Thresholds r ⌝ }
 {
-    match i {
-        0 => ROW_0,
-        1 => ROW_1,
-        2 => ROW_2,
-        3 => ROW_3,
-        4 => ROW_4,
-        5 => ROW_5,
-        6 => ROW_6,
-        7 => ROW_7,
-        8 => ROW_8,
-        9 => ROW_9,
-        10 => ROW_10,
-        11 => ROW_11,
-        12 => ROW_12,
-        13 => ROW_13,
-        14 => ROW_14,
-        _ => ROW_15,
-    }
+    THRESHOLDS
 }
 
-fn heads() -> [u32; 16]
-    ensures { λ r. ⌜ Thresholds 0 16 r ⌝ }
-{
-    HEADS
-}
-
-// How many of the entries of a rising row a mantissa reaches. It goes without a branch that depends on the mantissa.
-fn reached(row: &[u32; 16], mantissa: u32) -> usize
-    requires { ⌜ Rising (now row) ⌝ }
-    ensures { λ r. ⌜ Reached (now (row .entry)) mantissa r ⌝ }
+// Of sixteen thresholds, from one on and then each `by` steps, how many a mantissa reaches. No branch depends on the mantissa.
+fn reached(table: &[u32; 256], from: usize, by: usize, mantissa: u32) -> usize
+    requires { ⌜ Rising (now table) × (from + by * 15 < 256) ⌝ }
+    ensures { λ r. ⌜ Reached (now (table .entry)) from by mantissa r ⌝ }
 {
     let mut n: usize = 0;
     let mut k: usize = 0;
     while k < 16 {
-        if row[k] <= mantissa {
+        if table[from + by * k] <= mantissa {
             n += 1;
             k += 1;
         } else {
@@ -378,16 +288,15 @@ fn reached(row: &[u32; 16], mantissa: u32) -> usize
     n
 }
 
-// The step of a mantissa within its octave.
+// The step of a mantissa within its octave: first among every sixteenth threshold, then among the sixteen from there on.
 fn step_of(mantissa: u32) -> u32
     requires { ⌜ 2 ^ 31 ≤ mantissa ⌝ }
     ensures { λ r. ⌜ StepOf mantissa r ⌝ }
 {
-    let first = heads();
-    let i = reached(&first, mantissa) - 1;
-    let thresholds = row(i);
-    let j = reached(&thresholds, mantissa) - 1;
-    (i * 16 + j) as u32
+    let table = thresholds();
+    let row = (reached(&table, 0, 16, mantissa) - 1) * 16;
+    let step = row + reached(&table, row, 1, mantissa) - 1;
+    step as u32
 }
 
 // L(n), for every n; L(0) is 0.
