@@ -10,7 +10,7 @@ refused-target-requires c κs = search needs
 
 returns : tie.Need-returns
 unfolding targetIn
-returns c = eq-case _ _ _ _ (search needs) (cc)
+returns c = eq-case _ _ _ _ (c .before .if1 .taken) (c .refused-target .ensures)
 
 least-requires : tie.Need-least-requires
 least-requires c κs = search needs
@@ -38,21 +38,21 @@ report-row-requires c κs = search needs
 
 returns-2 : tie.Need-returns-2
 unfolding targetIn
-returns-2 c = ne-case _ _ _ _ (search needs) (eq-case _ _ _ _ (search needs) (lt-case _ _ _ _ (search needs) (cc)))
+returns-2 c = ne-case _ _ _ _ (search needs) (eq-case _ _ _ _ (search needs) (lt-case _ _ _ _ (search needs) (c .report-row .ensures)))
 
 refused-target-requires-2 : tie.Need-refused-target-requires-2
 refused-target-requires-2 c κs = search needs
 
 returns-3 : tie.Need-returns-3
 unfolding targetIn
-returns-3 c = ne-case _ _ _ _ (search needs) (eq-case _ _ _ _ (search needs) (ge-case _ _ _ _ (search needs) (cc)))
+returns-3 c = ne-case _ _ _ _ (search needs) (eq-case _ _ _ _ (search needs) (ge-case _ _ _ _ (search needs) (c .refused-target2 .ensures)))
 
 refused-target-requires-3 : tie.Need-refused-target-requires-3
 refused-target-requires-3 c κs = search needs
 
 returns-4 : tie.Need-returns-4
 unfolding targetIn
-returns-4 c = ne-case _ _ _ _ (search needs) (ne-case _ _ _ _ (search needs) (cc))
+returns-4 c = ne-case _ _ _ _ (search needs) (ne-case _ _ _ _ (search needs) (c .refused-target3 .ensures))
 
 pub target-spec : {M : Type 1} → statement M
 target-spec =

@@ -14,35 +14,35 @@ own-effect-requires c κs = search needs
 
 returns : tie.Need-returns
 unfolding ownFaultIn
-returns c = rw (decode-effect _ (c .before .if1 .taken)) (cc)
+returns c = rw (decode-effect _ (c .before .if1 .taken)) (c .own-effect .ensures)
 
 own-outcome-requires : tie.Need-own-outcome-requires
 own-outcome-requires c κs = search needs
 
 returns-2 : tie.Need-returns-2
 unfolding ownFaultIn
-returns-2 c = rw (decode-outcome _ (c .before .if2 .taken)) (cc)
+returns-2 c = rw (decode-outcome _ (c .before .if2 .taken)) (c .own-outcome .ensures)
 
 own-branching-requires : tie.Need-own-branching-requires
 own-branching-requires c κs = search needs
 
 returns-3 : tie.Need-returns-3
 unfolding ownFaultIn
-returns-3 c = rw (decode-branching _ (c .before .if3 .taken)) (cc)
+returns-3 c = rw (decode-branching _ (c .before .if3 .taken)) (c .own-branching .ensures)
 
 own-leak-requires : tie.Need-own-leak-requires
 own-leak-requires c κs = search needs
 
 returns-4 : tie.Need-returns-4
 unfolding ownFaultIn
-returns-4 c = rw (decode-leak _ (c .before .if4 .taken)) (cc)
+returns-4 c = rw (decode-leak _ (c .before .if4 .taken)) (c .own-leak .ensures)
 
 own-target-requires : tie.Need-own-target-requires
 own-target-requires c κs = search needs
 
 returns-5 : tie.Need-returns-5
 unfolding ownFaultIn
-returns-5 c = rw (decode-target _ (c .before .if5 .taken)) (cc)
+returns-5 c = rw (decode-target _ (c .before .if5 .taken)) (c .own-target .ensures)
 
 returns-6 : tie.Need-returns-6
 unfolding ownFaultIn
@@ -53,7 +53,7 @@ own-closing-requires c κs = search needs
 
 returns-7 : tie.Need-returns-7
 unfolding ownFaultIn
-returns-7 c = rw (decode-closing _ (c .before .before .before .before .before .before .if1 .left) (c .before .before .before .before .before .if2 .left) (c .before .before .before .before .if3 .left) (c .before .before .before .if4 .left) (c .before .before .if5 .left) (c .before .if6 .left)) (cc)
+returns-7 c = rw (decode-closing _ (c .before .before .before .before .before .before .if1 .left) (c .before .before .before .before .before .if2 .left) (c .before .before .before .before .if3 .left) (c .before .before .before .if4 .left) (c .before .before .if5 .left) (c .before .if6 .left)) (c .own-closing .ensures)
 
 pub own-fault-spec : {M : Type 1} → statement M
 own-fault-spec =

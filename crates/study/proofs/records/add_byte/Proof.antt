@@ -18,7 +18,7 @@ end-record-requires c κs = search needs
 
 returns : tie.Need-returns
 unfolding body
-returns c = cc
+returns c = rw (← c .before .before .before .before .before .before .before .before .put-pending .ensures, ← c .before .before .before .before .before .before .before .grow .ensures, ← c .before .before .before .before .before .before .core-reading .ensures) (c .end-record .ensures)
 
 pub add-byte-spec : {M : Type 1} → statement M
 add-byte-spec =

@@ -17,14 +17,16 @@ core-reading-requires c κs = search needs
 
 returns : tie.Need-returns
 unfolding step
-returns c = eq-case _ _ _ _ (search needs) (eq-case _ _ _ _ (search needs) (cc))
+returns c =
+    eq-case _ _ _ _ (c .before .before .before .before .before .before .if1 .taken)
+    (eq-case _ _ _ _ (c .before .before .before .before .if2 .taken) (rw (c .core-reading .ensures, c .before .begin .ensures, c .before .before .put-pending .ensures) refl))
 
 add-byte-requires : tie.Need-add-byte-requires
 add-byte-requires c κs = search needs
 
 returns-2 : tie.Need-returns-2
 unfolding step
-returns-2 c = eq-case _ _ _ _ (search needs) (ne-case _ _ _ _ (search needs) (cc))
+returns-2 c = eq-case _ _ _ _ (c .before .before .before .before .before .before .before .before .if1 .taken) (ne-case _ _ _ _ (c .before .before .before .before .before .before .if2 .left) (c .add-byte .ensures))
 
 returns-3 : tie.Need-returns-3
 unfolding step
