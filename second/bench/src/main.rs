@@ -1,5 +1,6 @@
 //! Times both implementations on the same studies in the same run.
 
+mod layout;
 mod studies;
 
 use std::hint::black_box;
@@ -153,6 +154,10 @@ fn main() {
         }
     }
     println!();
+    println!(
+        "state of the Rattle study: {} bytes, by the sizes of its fields",
+        size_of::<layout::Study>()
+    );
     println!(
         "state of the Rust study: {} bytes",
         size_of::<desk::Study>()
