@@ -2,7 +2,10 @@
 ghost use mathlib.Core.Path.{_≡_};
 ghost use Prim.Native.Nat.{_-_};
 ghost use Rattle.model.specs.Verdict.{decode};
-ghost use Rattle.model.specs.Machine.{state, store, recordRead, ended, body, step};
+ghost use mathlib.Core.List.{List};
+ghost use Prim.Native.Nat.{ℕ};
+ghost use Rattle.numeric.specs.Choice.{pick};
+ghost use Rattle.model.specs.Machine.{state, store, recordRead, body, step};
 use crate::faults::fault;
 use state::Core;
 
@@ -30,24 +33,6 @@ fn one_less(x: u8) -> u8
     if x == 0 { 0 } else { x - 1 }
 }
 
-// The record is read once it is whole.
-fn end_record(
-    c: Core,
-    p: &[u8; 16],
-    stack: &mut [u64; 9],
-    sums: &mut [u64; 256],
-    margins: &mut [u32; 256],
-    facts: &mut [u64; 256],
-) -> Core
-    ensures { λ r. ⌜ state r (now (p .entry)) (now (stack .exit)) (now (sums .exit)) (now (margins .exit)) (now (facts .exit)) ≡ ended (state c (now (p .entry)) (now (stack .entry)) (now (sums .entry)) (now (margins .entry)) (now (facts .entry))) ⌝ }
-{
-    let h = c.reading;
-    if decoding::body_length(p[0]) <= one_less(h.have) {
-        return record_read(c, p, stack, sums, margins, facts);
-    }
-    c
-}
-
 fn put_pending(p: &mut [u8; 16], at: u8, b: u8)
     ensures { λ _. ⌜ now (p .exit) ≡ store 16 (now (p .entry)) at b ⌝ }
 {
@@ -57,43 +42,50 @@ fn put_pending(p: &mut [u8; 16], at: u8, b: u8)
     }
 }
 
+// The parts that go by value after some bytes, and whether they made the record in the pending bytes whole: then it is still to be read.
+pub(crate) struct Entered {
+    pub(crate) core: Core,
+    pub(crate) whole: bool,
+}
+
 // One byte more of a record that has begun.
-fn add_byte(
-    c: Core,
-    b: u8,
-    p: &mut [u8; 16],
-    stack: &mut [u64; 9],
-    sums: &mut [u64; 256],
-    margins: &mut [u32; 256],
-    facts: &mut [u64; 256],
-) -> Core
-    ensures { λ r. ⌜ state r (now (p .exit)) (now (stack .exit)) (now (sums .exit)) (now (margins .exit)) (now (facts .exit)) ≡ body (state c (now (p .entry)) (now (stack .entry)) (now (sums .entry)) (now (margins .entry)) (now (facts .entry))) b ⌝ }
+fn enter_more(c: Core, b: u8, p: &mut [u8; 16]) -> Entered
+    ensures { λ r. ⌜ ((k s m f : List ℕ) → body (state c (now (p .entry)) k s m f) b ≡ pick (r .whole) (recordRead (state (r .core) (now (p .exit)) k s m f) (decode (now (p .exit)))) (state (r .core) (now (p .exit)) k s m f)) ⌝ }
 {
     let h = c.reading;
     put_pending(p, h.have, b);
-    let grown = reading::core_reading(c, reading::grow(h));
-    end_record(grown, p, stack, sums, margins, facts)
+    let g = reading::grow(h);
+    let grown = reading::core_reading(c, g);
+    if decoding::body_length(p[0]) <= one_less(g.have) {
+        return Entered {
+            core: grown,
+            whole: true,
+        };
+    }
+    Entered {
+        core: grown,
+        whole: false,
+    }
 }
 
-// The study after one byte.
-pub(crate) fn read_byte(
-    c: Core,
-    b: u8,
-    p: &mut [u8; 16],
-    stack: &mut [u64; 9],
-    sums: &mut [u64; 256],
-    margins: &mut [u32; 256],
-    facts: &mut [u64; 256],
-) -> Core
-    ensures { λ r. ⌜ state r (now (p .exit)) (now (stack .exit)) (now (sums .exit)) (now (margins .exit)) (now (facts .exit)) ≡ step (state c (now (p .entry)) (now (stack .entry)) (now (sums .entry)) (now (margins .entry)) (now (facts .entry))) b ⌝ }
+// One byte more.
+pub(crate) fn enter_byte(c: Core, b: u8, p: &mut [u8; 16]) -> Entered
+    ensures { λ r. ⌜ ((k s m f : List ℕ) → step (state c (now (p .entry)) k s m f) b ≡ pick (r .whole) (recordRead (state (r .core) (now (p .exit)) k s m f) (decode (now (p .exit)))) (state (r .core) (now (p .exit)) k s m f)) ⌝ }
 {
     let h = c.reading;
     if h.phase == 0 {
         if h.have == 0 {
             put_pending(p, 0, b);
-            return reading::core_reading(c, reading::begin(h, b));
+            let begun = reading::core_reading(c, reading::begin(h, b));
+            return Entered {
+                core: begun,
+                whole: false,
+            };
         }
-        return add_byte(c, b, p, stack, sums, margins, facts);
+        return enter_more(c, b, p);
     }
-    c
+    Entered {
+        core: c,
+        whole: false,
+    }
 }

@@ -5,10 +5,13 @@ ghost use mathlib.Core.Logic.{_⊎_};
 ghost use mathlib.Core.List.{List, _++_};
 ghost use Prim.Native.Nat.{ℕ, _+_, _-_, _<_, _≤_};
 ghost use lib.ListN.{length, getD, take, drop};
-ghost use Rattle.model.specs.Machine.{core, reading, state, readAll};
+ghost use Rattle.numeric.specs.Choice.{pick};
+ghost use Rattle.model.specs.Verdict.{decode};
+ghost use Rattle.model.specs.Machine.{core, reading, state, recordRead, readAll};
 ghost use Rattle.study.specs.Spans.{Between, Whole, Span, EffectHere};
 use crate::faults::effect_record_fault;
-use crate::records::read_byte;
+use crate::records::Entered;
+use crate::records::enter_byte;
 use crate::records::record_read;
 use state::Core;
 use state::Reading;
@@ -78,6 +81,31 @@ fn begun_whole(c: Core, n: usize) -> Core
     reading::core_reading(c, begun)
 }
 
+// A whole record's bytes.
+fn enter_record(c: Core, bytes: &[u8], p: &mut [u8; 16]) -> Entered
+    requires { ⌜ (length (now p) ≡ 16) × Between (c .reading) × Whole (now bytes) (length (now bytes)) ⌝ }
+    ensures { λ r. ⌜ ((k s m f : List ℕ) → readAll (state c (now (p .entry)) k s m f) (now (bytes .entry)) ≡ pick (r .whole) (recordRead (state (r .core) (now (p .exit)) k s m f) (decode (now (p .exit)))) (state (r .core) (now (p .exit)) k s m f)) ⌝ }
+{
+    fill(p, bytes);
+    let begun = begun_whole(c, bytes.len());
+    Entered {
+        core: begun,
+        whole: true,
+    }
+}
+
+// One byte, or a whole record's bytes.
+fn enter(c: Core, bytes: &[u8], p: &mut [u8; 16]) -> Entered
+    requires { ⌜ length (now p) ≡ 16 ⌝ }
+    requires { ⌜ (length (now bytes) ≡ 1) ⊎ (Between (c .reading) × Whole (now bytes) (length (now bytes))) ⌝ }
+    ensures { λ r. ⌜ ((k s m f : List ℕ) → readAll (state c (now (p .entry)) k s m f) (now (bytes .entry)) ≡ pick (r .whole) (recordRead (state (r .core) (now (p .exit)) k s m f) (decode (now (p .exit)))) (state (r .core) (now (p .exit)) k s m f)) ⌝ }
+{
+    if bytes.len() == 1 {
+        return enter_byte(c, bytes[0], p);
+    }
+    enter_record(c, bytes, p)
+}
+
 // Reads one byte or one whole record.
 fn read_span(
     c: Core,
@@ -92,12 +120,12 @@ fn read_span(
     requires { ⌜ (length (now bytes) ≡ 1) ⊎ (Between (c .reading) × Whole (now bytes) (length (now bytes))) ⌝ }
     ensures { λ r. ⌜ state r (now (p .exit)) (now (stack .exit)) (now (sums .exit)) (now (margins .exit)) (now (facts .exit)) ≡ readAll (state c (now (p .entry)) (now (stack .entry)) (now (sums .entry)) (now (margins .entry)) (now (facts .entry))) (now (bytes .entry)) ⌝ }
 {
-    let n = bytes.len();
-    if n == 1 {
-        return read_byte(c, bytes[0], p, stack, sums, margins, facts);
+    let e = enter(c, bytes, p);
+    let d = e.core;
+    if e.whole {
+        return record_read(d, p, stack, sums, margins, facts);
     }
-    fill(p, bytes);
-    record_read(begun_whole(c, n), p, stack, sums, margins, facts)
+    d
 }
 
 // Whether the bytes begin with a whole effect.
