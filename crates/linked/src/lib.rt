@@ -1,15 +1,15 @@
 // The desk's reader for programs in other languages: one study's bytes, read in pieces of a given size.
 ghost use mathlib.Core.Path.{_≡_};
-ghost use Prim.Native.Nat.{_<_, _≤_};
+ghost use Prim.Native.Nat.{_+_, _<_, min, max};
 ghost use Rattle.model.specs.Machine.{fresh, readAll};
 ghost use Rattle.study.specs.View.{view};
 ghost use Rattle.linked.specs.Reported.{sumAfter};
 use study::Study;
 
-// Where the next piece ends: at least one byte on, and not past the last.
+// Where the next piece ends: `size` bytes on, at least one, and not past the last.
 fn piece_end(at: usize, size: u64, all: usize) -> usize
     requires { ⌜ at < all ⌝ }
-    ensures { λ r. ⌜ (at < r) × (r ≤ all) ⌝ }
+    ensures { λ r. ⌜ r ≡ min (at + max size 1) all ⌝ }
 {
     let left = (all - at) as u64;
     if size == 0 {

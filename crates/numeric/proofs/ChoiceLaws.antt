@@ -1,8 +1,8 @@
 -- Case laws of the choices: a value is the chosen one, where the comparison's fact holds. Assumes nothing.
-use mathlib.Core.Path.{_≡_, refl}
+use mathlib.Core.Path.{_≡_, refl, sym, subst}
 use mathlib.Core.Bool.{Bool, true, false}
 use Prim.Native.Nat.{ℕ, _<_, _≤_}
-use lib.Dec.{eqb, leb, ltb}
+use lib.Dec.{T, eqb, leb, ltb}
 use borrow.Author.Tests.{eq-eqb, ne-eqb, lt-ltb, le-ltb, le-leb, lt-leb, eqb-true, eqb-false, leb-true, leb-false, ltb-true, ltb-false}
 use Rattle.numeric.specs.Choice.{pick, ifEq, ifLe, ifLt}
 
@@ -30,6 +30,15 @@ module _ {A : Type 0} where
   pub ge-case : (m n : ℕ) (x y : A) {r : A} → n ≤ m → r ≡ y → r ≡ ifLt m n x y
   unfolding ifLt
   ge-case m n x y h e = rw (le-ltb m n h) e
+
+-- a choice whose test is known
+pub picked-first : {A : Type 0} (b : Bool) (x y z : A) → z ≡ pick b x y → b ≡ true → z ≡ x
+picked-first true x y z e h = e
+picked-first false x y z e h = absurd (subst T (sym h) tt)
+
+pub picked-second : {A : Type 0} (b : Bool) (x y z : A) → z ≡ pick b x y → b ≡ false → z ≡ y
+picked-second true x y z e h = absurd (subst T h tt)
+picked-second false x y z e h = e
 
 -- what holds of both sides holds of the choice
 pub pick-both : {A : Type 0} (P : A → Type 0) (b : Bool) (x y : A) → P x → P y → P (pick b x y)

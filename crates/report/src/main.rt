@@ -16,18 +16,11 @@ struct Turn {
 // One read, of what the buffer holds at most. A piece has bytes, so that its answer is 7 wherever bytes follow the closing record.
 fn read_piece(before: Taken, buffer: &mut [u8]) -> Turn {
     let got = libc::read(STDIN_FILENO, buffer);
-    if got < 0 {
+    if got <= 0 {
         return Turn {
             taken: before,
             more: false,
-            failed: true,
-        };
-    }
-    if got == 0 {
-        return Turn {
-            taken: before,
-            more: false,
-            failed: false,
+            failed: got < 0,
         };
     }
     let n = io::count(got, buffer);

@@ -1,6 +1,5 @@
 -- What a piece's bytes do when they are read record by record. Assumes nothing.
-use mathlib.Core.Path.{_≡_, refl, sym, _∙_, ap, subst}
-use mathlib.Core.Bool.{Bool, true, false}
+use mathlib.Core.Path.{_≡_, refl, sym, _∙_, ap}
 use mathlib.Core.Logic.{_⊎_, inl, inr}
 use mathlib.Core.List.{List, [], _∷_, _++_, append-nil, append-assoc}
 use Prim.Native.Nat.{ℕ, suc, _+_, _-_, _<_, _≤_}
@@ -8,14 +7,13 @@ use native.Mathlib.Omega.{arith}
 use native.Mathlib.Numerals.{add-one}
 use lib.ListN.{length, getD, set, take, drop, length-drop, length-set, List·getD-append}
 use lib.Seq.{take-suc, take-all, drop-cons, drop-drop, length-take-le, set-at, getD-take, take-add}
-use lib.Dec.{T}
-use Rattle.numeric.specs.Choice.{pick, ifEq}
+use Rattle.numeric.specs.Choice.{ifEq}
 use Rattle.numeric.proofs.ChoiceLaws.{eq-case, ne-case, eq-both, le-both, lt-both}
 use Rattle.state.specs.declared.Core.{Core}
 use Rattle.state.specs.declared.Reading.{Reading}
 use Rattle.model.specs.Format.{Record, openingRec, targetRec, leakRec, branchingRec, outcomeRec, effectRec, closingRec}
 use Rattle.model.specs.Verdict.{bodyLength, decode, field}
-use Rattle.model.specs.Machine.{State, state, store, begun, faultIn, effectState, accepted, withReading, refusedWith, recordRead, ended, body, step, readAll}
+use Rattle.model.specs.Machine.{State, state, store, faultIn, effectState, accepted, withReading, refusedWith, recordRead, ended, body, step, readAll}
 use Rattle.model.proofs.ReadLaws.{Ready, partial, read-append, read-whole}
 use Rattle.model.proofs.CodecLaws.{body-most}
 use Rattle.taking.proofs.Laws.{decode-effect}
@@ -204,13 +202,3 @@ span-part h l i n w e =
     go r (inr (b, q)) =
         let f = part-first l i n (e .some) in
         inr (b, record { known = rw f (q .known); size = rw f (part-length l i n r ∙ q .size) })
-
--- ---- a choice whose test is known
-
-pub picked-first : {A : Type 0} (b : Bool) (x y z : A) → z ≡ pick b x y → b ≡ true → z ≡ x
-picked-first true x y z e h = e
-picked-first false x y z e h = absurd (subst T (sym h) tt)
-
-pub picked-second : {A : Type 0} (b : Bool) (x y z : A) → z ≡ pick b x y → b ≡ false → z ≡ y
-picked-second true x y z e h = absurd (subst T h tt)
-picked-second false x y z e h = e

@@ -1,10 +1,9 @@
 // A record, and a byte.
 ghost use mathlib.Core.Path.{_≡_};
-ghost use Prim.Native.Nat.{_-_};
-ghost use Rattle.model.specs.Verdict.{decode};
 ghost use mathlib.Core.List.{List};
-ghost use Prim.Native.Nat.{ℕ};
+ghost use Prim.Native.Nat.{ℕ, _-_};
 ghost use Rattle.numeric.specs.Choice.{pick};
+ghost use Rattle.model.specs.Verdict.{decode};
 ghost use Rattle.model.specs.Machine.{state, store, recordRead, body, step};
 use crate::faults::fault;
 use state::Core;

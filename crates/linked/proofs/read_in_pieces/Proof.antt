@@ -43,8 +43,9 @@ loop-less c = search needs
 loop-again : tie.Need-loop-again Inv-loop μ-loop
 loop-again c =
     let v = c .before .before .before .before .before .loop in
+    let h = c .before .before .before .before .loop-test .taken in
     let e = c .before .before .before .piece-end .ensures in
-    (e .1, read-next _ _ _ (c .before .before .before .before .before .before .before .before .args .bytes .now) (v .at) _ (omega (arith, e .0)) (v .inv .1) (c .before .piece .ensures .0))
+    (omega (arith, e), read-next _ _ _ (c .before .before .before .before .before .before .before .before .args .bytes .now) (v .at) _ (omega (arith, e, h)) (v .inv .1) (c .before .piece .ensures .0))
 
 returns : tie.Need-returns Inv-loop μ-loop
 returns c = let v = c .before .loop in read-whole _ _ (c .before .before .before .before .args .bytes .now) (v .at) (v .inv .1) (c .loop-test .left)

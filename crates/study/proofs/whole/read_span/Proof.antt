@@ -1,7 +1,7 @@
 -- `study::whole::read_span` meets its contract: a record that is whole is read. Assumes nothing.
 use mathlib.Core.Path.{sym, _∙_}
+use Rattle.numeric.proofs.ChoiceLaws.{picked-first, picked-second}
 use borrow.Author.Needs.{needs}
-use Rattle.study.proofs.SpanLaws.{picked-first, picked-second}
 use Rattle.study.proofs.whole.read_span.Statement.{statement}
 use Rattle.study.proofs.whole.read_span.Tie as tie
 
