@@ -61,7 +61,7 @@ pub(crate) fn enter_outcome(b: Branch, tree: u64, kind: u8, effects: u16) -> Bra
         leak: b.leak,
         kind: kind,
         frequency: tree / 16,
-        above: (tree % 16) as u8,
+        above: (tree % 16) as u32,
     }
 }
 

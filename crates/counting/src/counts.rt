@@ -5,7 +5,7 @@ use state::Counts;
 use state::Reading;
 
 // A record is taken, and the study goes on in a phase.
-pub(crate) fn take(h: Reading, phase: u8) -> Reading
+pub(crate) fn take(h: Reading, phase: u32) -> Reading
     ensures { λ r. ⌜ r ≡ taken h phase ⌝ }
 {
     Reading {

@@ -1,5 +1,6 @@
 // The totals of a study.
 ghost use mathlib.Core.Path.{_≡_};
+ghost use Prim.Native.Nat.{_+_, min};
 ghost use Rattle.numeric.specs.Choice.{pick};
 ghost use Rattle.model.specs.Machine.{studyTally, kindGrown, outcomeTally, effectTally};
 use state::Tally;
@@ -44,13 +45,14 @@ pub(crate) fn tally_outcome(y: Tally, kind: u8, frequency: u64) -> Tally
     }
 }
 
-fn not_judged(judged: bool) -> u32
-    ensures { λ r. ⌜ r ≡ pick judged 0 1 ⌝ }
+// One more effect that no rule judged, or as many as before.
+fn count_unjudged(unjudged: u32, judged: bool) -> u32
+    ensures { λ r. ⌜ r ≡ min (unjudged + pick judged 0 1) 4294967295 ⌝ }
 {
     if judged {
-        return 0;
+        return unjudged;
     }
-    1
+    numeric::add32(unjudged, 1)
 }
 
 pub(crate) fn tally_effect(y: Tally, judged: bool) -> Tally
@@ -64,6 +66,6 @@ pub(crate) fn tally_effect(y: Tally, judged: bool) -> Tally
         kind3: y.kind3,
         kind4: y.kind4,
         kind5: y.kind5,
-        unjudged: numeric::add32(y.unjudged, not_judged(judged)),
+        unjudged: count_unjudged(y.unjudged, judged),
     }
 }

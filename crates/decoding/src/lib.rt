@@ -1,6 +1,7 @@
-// The fields of a record in the pending bytes: kind byte first, numbers most significant byte first (document 01, "Records").
+// The fields of a record in its bytes, which other bytes may follow: kind byte first, numbers most significant byte first (document 01, "Records").
 ghost use mathlib.Core.Path.{_≡_};
 ghost use Prim.Native.Nat.{_+_, _*_, _<_};
+ghost use lib.ListN.{getD};
 ghost use Rattle.model.specs.Verdict.{bodyLength, field, factsAt};
 use terms::Target;
 
@@ -38,24 +39,34 @@ fn wide(x: u8) -> u32
     x as u32
 }
 
+// The byte at a place; 0 past the last.
+fn byte(p: &[u8], i: usize) -> u8
+    ensures { λ r. ⌜ r ≡ getD (now (p .entry)) i 0 ⌝ }
+{
+    if i < p.len() {
+        return p[i];
+    }
+    0
+}
+
 // The number in two, four or eight bytes from a place on.
-fn half(p: &[u8; 16], i: usize) -> u16
-    requires { ⌜ i < 15 ⌝ }
+fn half(p: &[u8], i: usize) -> u16
+    requires { ⌜ i < 16 ⌝ }
     ensures { λ r. ⌜ r ≡ field (now (p .entry)) i 2 ⌝ }
 {
-    let a = wide(p[i]);
-    let b = wide(p[i + 1]);
+    let a = wide(byte(p, i));
+    let b = wide(byte(p, i + 1));
     (a * 256 + b) as u16
 }
 
-fn word(p: &[u8; 16], i: usize) -> u32
-    requires { ⌜ i < 13 ⌝ }
+fn word(p: &[u8], i: usize) -> u32
+    requires { ⌜ i < 16 ⌝ }
     ensures { λ r. ⌜ r ≡ field (now (p .entry)) i 4 ⌝ }
 {
-    let a = wide(p[i]);
-    let b = wide(p[i + 1]);
-    let c = wide(p[i + 2]);
-    let d = wide(p[i + 3]);
+    let a = wide(byte(p, i));
+    let b = wide(byte(p, i + 1));
+    let c = wide(byte(p, i + 2));
+    let d = wide(byte(p, i + 3));
     ((a * 256 + b) * 256 + c) * 256 + d
 }
 
@@ -65,57 +76,64 @@ fn joined(high: u32, low: u32) -> u64
     (high as u64) * 4_294_967_296 + (low as u64)
 }
 
-// The number in one, two, four or eight bytes at a place that a record has a field at.
-pub fn byte_at_1(p: &[u8; 16]) -> u8
-    ensures { λ r. ⌜ r ≡ field (now (p .entry)) 1 1 ⌝ }
+// The kind byte.
+pub fn kind(p: &[u8]) -> u8
+    ensures { λ r. ⌜ r ≡ getD (now (p .entry)) 0 0 ⌝ }
 {
-    p[1]
+    byte(p, 0)
 }
 
-pub fn half_at_1(p: &[u8; 16]) -> u16
+// The number in one, two, four or eight bytes at a place that a record has a field at.
+pub fn byte_at_1(p: &[u8]) -> u8
+    ensures { λ r. ⌜ r ≡ field (now (p .entry)) 1 1 ⌝ }
+{
+    byte(p, 1)
+}
+
+pub fn half_at_1(p: &[u8]) -> u16
     ensures { λ r. ⌜ r ≡ field (now (p .entry)) 1 2 ⌝ }
 {
     half(p, 1)
 }
 
-pub fn half_at_2(p: &[u8; 16]) -> u16
+pub fn half_at_2(p: &[u8]) -> u16
     ensures { λ r. ⌜ r ≡ field (now (p .entry)) 2 2 ⌝ }
 {
     half(p, 2)
 }
 
-pub fn half_at_7(p: &[u8; 16]) -> u16
+pub fn half_at_7(p: &[u8]) -> u16
     ensures { λ r. ⌜ r ≡ field (now (p .entry)) 7 2 ⌝ }
 {
     half(p, 7)
 }
 
-pub fn word_at_1(p: &[u8; 16]) -> u32
+pub fn word_at_1(p: &[u8]) -> u32
     ensures { λ r. ⌜ r ≡ field (now (p .entry)) 1 4 ⌝ }
 {
     word(p, 1)
 }
 
-pub fn word_at_3(p: &[u8; 16]) -> u32
+pub fn word_at_3(p: &[u8]) -> u32
     ensures { λ r. ⌜ r ≡ field (now (p .entry)) 3 4 ⌝ }
 {
     word(p, 3)
 }
 
-pub fn long_at_5(p: &[u8; 16]) -> u64
+pub fn long_at_5(p: &[u8]) -> u64
     ensures { λ r. ⌜ r ≡ field (now (p .entry)) 5 8 ⌝ }
 {
     joined(word(p, 5), word(p, 9))
 }
 
 // Class, setting and volume of a target's record.
-pub fn facts(p: &[u8; 16]) -> Target
+pub fn facts(p: &[u8]) -> Target
     ensures { λ r. ⌜ r ≡ factsAt (now (p .entry)) ⌝ }
 {
     let volume = word(p, 5);
     Target {
-        class: p[3],
-        setting: p[4],
+        class: byte(p, 3),
+        setting: byte(p, 4),
         volume: volume,
     }
 }

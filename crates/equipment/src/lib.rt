@@ -1,7 +1,8 @@
-// The chance of damage to equipment.
+// The chance of damage to equipment. The caller lends both tables: the logarithm's thresholds and the probit's rows.
 ghost use mathlib.Core.Path.{_≡_};
 ghost use Prim.Native.Nat.{_+_, _*_, _/_, _^_, _<_};
-ghost use Rattle.log2.specs.Logarithm.{logarithm};
+ghost use Rattle.log2.specs.Logarithm.{logarithm, Thresholds};
+ghost use Rattle.probit.specs.Table.{RowsReached};
 ghost use Rattle.probit.specs.Chance.{chanceOf};
 ghost use Rattle.terms.specs.Terms.{seconds, judgedAs};
 ghost use Rattle.equipment.specs.Damage.{blastRowOf, blastProbit, blastDamage, heatProbit, heatDamage, fireDamage, damageOf};
@@ -46,49 +47,50 @@ fn blast_row(class: u8) -> BlastRow
     }
 }
 
-// factor × L(n) × 693,147 / divisor, rounded down: the logarithm's part of a probit.
-fn scaled_log(factor: u64, n: u32, divisor: u64) -> u64
+// factor × L(n) × 693,147 / divisor, rounded down: the logarithm's part of a probit. It is below 2^55 with any table.
+fn scaled_log(table: &[u32; 256], factor: u64, n: u32, divisor: u64) -> u64
     requires { ⌜ (factor < 2 ^ 22) × (0 < divisor) ⌝ }
-    ensures { λ r. ⌜ r ≡ factor * logarithm n * 693147 / divisor ⌝ }
+    ensures { λ r. ⌜ (Thresholds (now (table .entry)) → r ≡ factor * logarithm n * 693147 / divisor) ⌝ }
+    ensures { λ r. ⌜ r < 2 ^ 55 ⌝ }
 {
-    let log = log2::log256(n) as u64;
+    let log = log2::log256(table, n) as u64;
     factor * log * 693_147 / divisor
 }
 
 // The chance by the probit of an explosion.
-fn blast_chance(row: BlastRow, pa: u32) -> u32
-    ensures { λ r. ⌜ r ≡ chanceOf (blastProbit row pa) ⌝ }
+fn blast_chance(table: &[u32; 256], rows: &[u8; 544], row: BlastRow, pa: u32) -> u32
+    ensures { λ r. ⌜ (Thresholds (now (table .entry)) → RowsReached (now (rows .entry)) → r ≡ chanceOf (blastProbit row pa)) ⌝ }
 {
-    let log = scaled_log(row.factor as u64, pa, 25_600);
-    probit::chance(log, row.constant as u64)
+    let log = scaled_log(table, row.factor as u64, pa, 25_600);
+    probit::chance(rows, log, row.constant as u64)
 }
 
 // Overpressure in Pa.
-fn blast(row: BlastRow, pa: u32) -> u32
-    ensures { λ r. ⌜ r ≡ blastDamage row pa ⌝ }
+fn blast(table: &[u32; 256], rows: &[u8; 544], row: BlastRow, pa: u32) -> u32
+    ensures { λ r. ⌜ (Thresholds (now (table .entry)) → RowsReached (now (rows .entry)) → r ≡ blastDamage row pa) ⌝ }
 {
     if pa < row.threshold {
         return 0;
     }
-    blast_chance(row, pa)
+    blast_chance(table, rows, row, pa)
 }
 
 // The chance by the probit of a fire.
-fn heat_chance(q: u32, volume: u32) -> u32
-    ensures { λ r. ⌜ r ≡ chanceOf (heatProbit q volume) ⌝ }
+fn heat_chance(table: &[u32; 256], rows: &[u8; 544], q: u32, volume: u32) -> u32
+    ensures { λ r. ⌜ (Thresholds (now (table .entry)) → RowsReached (now (rows .entry)) → r ≡ chanceOf (heatProbit q volume)) ⌝ }
 {
-    let heat = scaled_log(2_083_416, q, 256_000_000);
+    let heat = scaled_log(table, 2_083_416, q, 256_000_000);
     let size = 4_925_949 * (volume as u64) / 100_000;
-    probit::chance(heat + size, 20_094_547)
+    probit::chance(rows, heat + size, 20_094_547)
 }
 
 // Heat in W/m² on a vessel or pipe at atmospheric pressure. The time that it has to exceed goes by the clock.
-fn heat(limit: u16, volume: u32, q: u32, duration: u16) -> u32
-    ensures { λ r. ⌜ r ≡ heatDamage limit volume q duration ⌝ }
+fn heat(table: &[u32; 256], rows: &[u8; 544], limit: u16, volume: u32, q: u32, duration: u16) -> u32
+    ensures { λ r. ⌜ (Thresholds (now (table .entry)) → RowsReached (now (rows .entry)) → r ≡ heatDamage limit volume q duration) ⌝ }
 {
     if 15_000 < q {
         if limit < duration {
-            return heat_chance(q, volume);
+            return heat_chance(table, rows, q, volume);
         }
         return 0;
     }
@@ -96,24 +98,26 @@ fn heat(limit: u16, volume: u32, q: u32, duration: u16) -> u32
 }
 
 // A fire, by class: atmospheric vessels and pipes are judged, the others not.
-fn fire(limit: u16, class: u8, volume: u32, q: u32, duration: u16) -> Judged
-    ensures { λ r. ⌜ r ≡ fireDamage limit class volume q duration ⌝ }
+fn fire(
+    table: &[u32; 256],
+    rows: &[u8; 544],
+    limit: u16,
+    class: u8,
+    volume: u32,
+    q: u32,
+    duration: u16,
+) -> Judged
+    ensures { λ r. ⌜ (Thresholds (now (table .entry)) → RowsReached (now (rows .entry)) → r ≡ fireDamage limit class volume q duration) ⌝ }
 {
-    if class == 1 {
-        return Judged {
-            chance: heat(limit, volume, q, duration),
+    match class {
+        1 | 5 => Judged {
+            chance: heat(table, rows, limit, volume, q, duration),
             judged: true,
-        };
-    }
-    if class == 5 {
-        return Judged {
-            chance: heat(limit, volume, q, duration),
-            judged: true,
-        };
-    }
-    Judged {
-        chance: 0,
-        judged: false,
+        },
+        _ => Judged {
+            chance: 0,
+            judged: false,
+        },
     }
 }
 
@@ -127,8 +131,16 @@ fn none() -> Judged
 }
 
 // The chance of damage, by outcome kind, class, volume, intensity and duration in seconds.
-pub fn damage(kind: u8, class: u8, volume: u32, intensity: u32, duration: u16) -> Judged
-    ensures { λ r. ⌜ r ≡ damageOf seconds kind class volume intensity duration ⌝ }
+pub fn damage(
+    table: &[u32; 256],
+    rows: &[u8; 544],
+    kind: u8,
+    class: u8,
+    volume: u32,
+    intensity: u32,
+    duration: u16,
+) -> Judged
+    ensures { λ r. ⌜ (Thresholds (now (table .entry)) → RowsReached (now (rows .entry)) → r ≡ damageOf seconds kind class volume intensity duration) ⌝ }
 {
     if class == 0 {
         return none();
@@ -138,7 +150,7 @@ pub fn damage(kind: u8, class: u8, volume: u32, intensity: u32, duration: u16) -
     }
     if kind == 5 {
         return Judged {
-            chance: blast(blast_row(class), intensity),
+            chance: blast(table, rows, blast_row(class), intensity),
             judged: true,
         };
     }
@@ -149,7 +161,7 @@ pub fn damage(kind: u8, class: u8, volume: u32, intensity: u32, duration: u16) -
         return none();
     }
     if kind <= 3 {
-        return fire(600, class, volume, intensity, duration);
+        return fire(table, rows, 600, class, volume, intensity, duration);
     }
     none()
 }

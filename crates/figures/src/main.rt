@@ -24,16 +24,23 @@ fn branches(frequency: u64, chance: u32) {
 }
 
 // n; L(n).
-fn logarithm(n: u32) {
+fn logarithm(table: &[u32; 256], n: u32) {
     word(b"logarithm");
     number(n as u64);
-    number(log2::log256(n) as u64);
+    number(log2::log256(table, n) as u64);
     word(b"\n");
 }
 
 // Outcome kind, setting, intensity, duration; chance of death.
-fn deaths(kind: u8, setting: u8, intensity: u32, duration: u16) {
-    let j = people::death(kind, setting, intensity, duration);
+fn deaths(
+    table: &[u32; 256],
+    rows: &[u8; 544],
+    kind: u8,
+    setting: u8,
+    intensity: u32,
+    duration: u16,
+) {
+    let j = people::death(table, rows, kind, setting, intensity, duration);
     word(b"people");
     number(kind as u64);
     number(setting as u64);
@@ -44,13 +51,13 @@ fn deaths(kind: u8, setting: u8, intensity: u32, duration: u16) {
 }
 
 // Class and overpressure; chance of damage, and whether a leak of 10^7 units puts the equipment on the domino list.
-fn blasts(class: u8, pa: u32) {
+fn blasts(table: &[u32; 256], rows: &[u8; 544], class: u8, pa: u32) {
     let target = Target {
         class: class,
         setting: 0,
         volume: 0,
     };
-    let j = vulnerability::effect(target, 5, pa, 0);
+    let j = vulnerability::effect(table, rows, target, 5, pa, 0);
     word(b"equipment");
     number(class as u64);
     number(pa as u64);
@@ -62,21 +69,23 @@ fn blasts(class: u8, pa: u32) {
 }
 
 fn main() {
+    let table = log2::thresholds();
+    let rows = probit::rows();
     branches(1, 500_000);
     branches(10_000_000_000_000, 999_999);
-    logarithm(1);
-    logarithm(2);
-    logarithm(3);
-    deaths(1, 0, 12_500, 20);
-    deaths(1, 1, 12_500, 20);
-    deaths(1, 2, 12_500, 20);
-    deaths(1, 0, 34_999, 20);
-    deaths(1, 0, 35_000, 20);
-    deaths(5, 2, 9_999, 0);
-    deaths(5, 2, 10_000, 0);
-    deaths(5, 2, 30_000, 0);
-    blasts(1, 67_000);
-    blasts(1, 70_000);
-    blasts(2, 29_999);
-    blasts(2, 30_000);
+    logarithm(&table, 1);
+    logarithm(&table, 2);
+    logarithm(&table, 3);
+    deaths(&table, &rows, 1, 0, 12_500, 20);
+    deaths(&table, &rows, 1, 1, 12_500, 20);
+    deaths(&table, &rows, 1, 2, 12_500, 20);
+    deaths(&table, &rows, 1, 0, 34_999, 20);
+    deaths(&table, &rows, 1, 0, 35_000, 20);
+    deaths(&table, &rows, 5, 2, 9_999, 0);
+    deaths(&table, &rows, 5, 2, 10_000, 0);
+    deaths(&table, &rows, 5, 2, 30_000, 0);
+    blasts(&table, &rows, 1, 67_000);
+    blasts(&table, &rows, 1, 70_000);
+    blasts(&table, &rows, 2, 29_999);
+    blasts(&table, &rows, 2, 30_000);
 }

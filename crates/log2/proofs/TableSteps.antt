@@ -1,16 +1,16 @@
--- The table's rule: one computed test over all entries. Assumes nothing.
-use mathlib.Core.Path.{_≡_}
-use mathlib.Core.Bool.{Bool}
+-- The table's rules, each one computed test over all of its cases. Assumes nothing.
+use mathlib.Core.Path.{_≡_, subst, sym}
+use mathlib.Core.Bool.{Bool, true}
 use mathlib.Core.List.{List}
-use Prim.Native.Nat.{ℕ, _+_, _-_, _*_, _^_, _<_, _≤_}
-use native.Mathlib.Nat.{pow-le-pow-left, pow-lt-pow-left, le-trans, lt-of-le-of-lt, lt-of-not-le, not-le-of-lt, mul-zero}
+use mathlib.Core.Logic.{⊎-elim}
+use Prim.Native.Nat.{ℕ, zero, suc, _+_, _-_, _*_, _/_, _^_, _<_, _≤_, min}
+use native.Mathlib.Nat.{pow-le-pow-left, le-trans, lt-of-le-of-lt, lt-of-not-le, not-le-of-lt, not-suc-le-zero, le-of-suc-le-suc, eq-or-lt-of-le}
 use native.Mathlib.Decide.{decLe}
 use native.Mathlib.Omega.{arith}
 use lib.Dec.{T, leb, ltb, leb→le, ltb→lt}
 use lib.ListN.{length, getD}
-use lib.Pow.{pow-mono}
 use Rattle.numeric.proofs.TableLaws.{both, both-left, both-right, every, entry, getD-entry, at}
-use Rattle.log2.specs.Logarithm.{Threshold, Thresholds, Rising, Reached, StepOf}
+use Rattle.log2.specs.Logarithm.{Threshold, Thresholds, NearStep, StepOf}
 
 -- the entry reaches its step, and one less doesn't
 abbrev pub least : ℕ → ℕ → Bool
@@ -36,81 +36,74 @@ pub thresholds-at : (xs : List ℕ) → length xs ≡ 256 → T (every least 0 x
 unfolding Thresholds
 thresholds-at xs e t k h = rw (getD-entry xs k) (threshold-of k (entry xs k) (at least xs t k (omega arith)))
 
--- a later step has no lower threshold
-threshold-rises : (k l x y : ℕ) → k ≤ l → Threshold k x → Threshold l y → x ≤ y
-threshold-rises k l x y h s t = s .least y (le-trans (pow-mono (omega arith)) (t .reaches))
-
-pub thresholds-rise : (xs : List ℕ) → Thresholds xs → Rising xs
-unfolding Thresholds Rising
-thresholds-rise xs t i j h k = threshold-rises i j (getD xs i 0) (getD xs j 0) h (t i (omega arith)) (t j k)
-
 -- a mantissa below a threshold doesn't reach the step
-pub below-threshold : (k x m : ℕ) → Threshold k x → m < x → m ^ 256 < 2 ^ (31 * 256 + k)
+below-threshold : (k x m : ℕ) → Threshold k x → m < x → m ^ 256 < 2 ^ (31 * 256 + k)
 below-threshold k x m t h = lt-of-not-le (λ l. not-le-of-lt h (t .least m l))
 
-pub above-threshold : (k x m : ℕ) → Threshold k x → x ≤ m → 2 ^ (31 * 256 + k) ≤ m ^ 256
+above-threshold : (k x m : ℕ) → Threshold k x → x ≤ m → 2 ^ (31 * 256 + k) ≤ m ^ 256
 above-threshold k x m t h = le-trans (t .reaches) (pow-le-pow-left h 256)
 
--- every mantissa reaches the first step, and none the one past the last
-pub first-step : (m : ℕ) → 2 ^ 31 ≤ m → 2 ^ (31 * 256 + 0) ≤ m ^ 256
-first-step m h = pow-le-pow-left h 256
+-- the test f passes at each number below n
+abbrev below : (ℕ → Bool) → ℕ → Bool
+below f zero = true
+below f (suc n) = both (f n) (below f n)
 
-pub past-last-step : (m : ℕ) → m < 2 ^ 32 → m ^ 256 < 2 ^ (31 * 256 + 256)
-past-last-step m h = pow-lt-pow-left {n = 256} h (omega arith)
+below-at : (f : ℕ → Bool) (n : ℕ) → T (below f n) → (k : ℕ) → k < n → T (f k)
+below-at f zero t k h = absurd (not-suc-le-zero h)
+below-at f (suc n) t k h =
+    ⊎-elim (λ e. subst (λ (m : ℕ). T (f m)) (sym e) (both-left (f n) (below f n) t))
+    (λ l. below-at f n (both-right (f n) (below f n) t) k l)
+    (eq-or-lt-of-le (le-of-suc-le-suc h))
 
--- the first of sixteen thresholds is reached where its step is
-pub some-reached : (a d m n : ℕ) (xs : List ℕ) → Thresholds xs → a < 256 → 2 ^ (31 * 256 + a) ≤ m ^ 256 → Reached xs a d m n → 1 ≤ n
-unfolding Thresholds
-some-reached a d m n xs t w h r = go (decLe 1 n)
-  where
-    go : Dec (1 ≤ n) → 1 ≤ n
-    go (yes l) = l
-    go (no l) =
-        let z : n ≡ 0 = omega arith in
-        let e : a + d * n ≡ a = rw (z, mul-zero d) (omega arith) in
-        let f : getD xs a 0 ≤ m = t a w .least m h in
-        let u : m < getD xs (a + d * n) 0 = r .next (omega arith) in
-        let v : m < getD xs a 0 = rw e at u in
-        let q : ⊥ = omega arith in
-        absurd q
+-- the least and the greatest mantissa of the nine bits b lie at step g or at the next
+abbrev near : ℕ → ℕ → Bool
+near b g =
+    both (leb (2 ^ (31 * 256 + g)) ((2 ^ 31 + b * 2 ^ 22) ^ 256))
+    (ltb ((2 ^ 31 + b * 2 ^ 22 + (2 ^ 22 - 1)) ^ 256) (2 ^ (31 * 256 + g + 2)))
 
--- what the mantissa reaches of the sixteen, and what not
-reached-low : (a d m n : ℕ) (xs : List ℕ) → Thresholds xs → Reached xs a d m n → 1 ≤ n → a + d * (n - 1) < 256 → 2 ^ (31 * 256 + (a + d * (n - 1))) ≤ m ^ 256
-unfolding Thresholds
-reached-low a d m n xs t r h w = above-threshold (a + d * (n - 1)) (getD xs (a + d * (n - 1)) 0) m (t (a + d * (n - 1)) w) (r .last (omega arith))
+-- the cubic, and the test that it passes at all bits, up to step 254
+abbrev pub cubic : ℕ → ℕ → ℕ → ℕ → ℕ → ℕ
+cubic p a d q b = (b * p + b * (512 - b) * (a - d * b)) / q
 
-reached-high : (a d m n : ℕ) (xs : List ℕ) → Thresholds xs → Reached xs a d m n → n < 16 → a + d * n < 256 → m ^ 256 < 2 ^ (31 * 256 + (a + d * n))
-unfolding Thresholds
-reached-high a d m n xs t r h w = below-threshold (a + d * n) (getD xs (a + d * n) 0) m (t (a + d * n) w) (r .next h)
+abbrev pub fits : ℕ → ℕ → ℕ → ℕ → Bool
+fits p a d q = below (λ b. near b (min (cubic p a d q b) 254)) 512
 
--- the first step of the row
-pub row-low : (m p : ℕ) (xs : List ℕ) → Thresholds xs → Reached xs 0 16 m p → 1 ≤ p → 2 ^ (31 * 256 + (p - 1) * 16) ≤ m ^ 256
-row-low m p xs t r h =
-    let w = r .within in
-    let e : 31 * 256 + (0 + 16 * (p - 1)) ≡ 31 * 256 + (p - 1) * 16 = omega arith in
-    rw (← e) (reached-low 0 16 m p xs t r h (omega arith))
+near-of : (b g : ℕ) → g ≤ 254 → T (near b g) → NearStep b g
+near-of b g h t =
+    let l : Bool = leb (2 ^ (31 * 256 + g)) ((2 ^ 31 + b * 2 ^ 22) ^ 256) in
+    let u : Bool = ltb ((2 ^ 31 + b * 2 ^ 22 + (2 ^ 22 - 1)) ^ 256) (2 ^ (31 * 256 + g + 2)) in
+    record { within = h; low = leb→le _ _ (both-left l u t); high = ltb→lt _ _ (both-right l u t) }
 
--- the step from the row and the place in the row
-pub step-from : (m p q : ℕ) (xs : List ℕ) → Thresholds xs → Reached xs 0 16 m p → Reached xs ((p - 1) * 16) 1 m q
-    → 1 ≤ p → 1 ≤ q → m < 2 ^ 32 → StepOf m ((p - 1) * 16 + q - 1)
-step-from m p q xs t rp rq hp hq w =
-    let wp = rp .within in
-    let wq = rq .within in
-    let e : 31 * 256 + ((p - 1) * 16 + 1 * (q - 1)) ≡ 31 * 256 + ((p - 1) * 16 + q - 1) = omega arith in
-    let l = reached-low ((p - 1) * 16) 1 m q xs t rq hq (omega arith) in
-    record { within = omega arith; low = rw (← e) l; high = go (decLe q 15) (decLe p 15) }
-  where
-    go : Dec (q ≤ 15) → Dec (p ≤ 15) → m ^ 256 < 2 ^ (31 * 256 + ((p - 1) * 16 + q - 1) + 1)
-    go (yes d) c =
-        let wp = rp .within in
-        let e : 31 * 256 + ((p - 1) * 16 + q - 1) + 1 ≡ 31 * 256 + ((p - 1) * 16 + 1 * q) = omega arith in
-        rw e (reached-high ((p - 1) * 16) 1 m q xs t rq (omega arith) (omega arith))
-    go (no d) (yes c) =
-        let wq = rq .within in
-        let e : 31 * 256 + ((p - 1) * 16 + q - 1) + 1 ≡ 31 * 256 + (0 + 16 * p) = omega arith in
-        rw e (reached-high 0 16 m p xs t rp (omega arith) (omega arith))
-    go (no d) (no c) =
-        let wp = rp .within in
-        let wq = rq .within in
-        let e : 31 * 256 + ((p - 1) * 16 + q - 1) + 1 ≡ 31 * 256 + 256 = omega arith in
-        rw e (past-last-step m w)
+module _ (p a d q b : ℕ) (t : T (fits p a d q)) (h : b < 512) where
+  near-at : (g : ℕ) → g ≤ 254 → min (cubic p a d q b) 254 ≡ g → NearStep b g
+  near-at g w e = near-of b g w (subst (λ (m : ℕ). T (near b m)) e (below-at (λ i. near i (min (cubic p a d q i) 254)) 512 t b h))
+
+  pub near-low : cubic p a d q b < 254 → NearStep b (cubic p a d q b)
+  near-low l = near-at (cubic p a d q b) (omega arith) (omega arith)
+
+  pub near-last : 254 ≤ cubic p a d q b → NearStep b 254
+  near-last l = near-at 254 (omega arith) (omega arith)
+
+-- a mantissa lies at the near step where it is below the next threshold, and else at the next step
+module _ (l : List ℕ) (b g m : ℕ) (t : Thresholds l) (n : NearStep b g) (lo : 2 ^ 31 + b * 2 ^ 22 ≤ m) (hi : m ≤ 2 ^ 31 + b * 2 ^ 22 + (2 ^ 22 - 1)) where
+  pub at-next : getD l (g + 1) 0 ≤ m → StepOf m (g + 1)
+  unfolding Thresholds
+  at-next h =
+      let w = n .within in
+      let e : 31 * 256 + (g + 1) + 1 ≡ 31 * 256 + g + 2 = omega arith in
+      record {
+        within = omega arith;
+        low = above-threshold (g + 1) _ m (t (g + 1) (omega arith)) h;
+        high = rw e (lt-of-le-of-lt (pow-le-pow-left hi 256) (n .high));
+      }
+
+  pub at-near : m < getD l (g + 1) 0 → StepOf m g
+  unfolding Thresholds
+  at-near h =
+      let w = n .within in
+      let e : 31 * 256 + g + 1 ≡ 31 * 256 + (g + 1) = omega arith in
+      record {
+        within = omega arith;
+        low = le-trans (n .low) (pow-le-pow-left lo 256);
+        high = rw e (below-threshold (g + 1) _ m (t (g + 1) (omega arith)) h);
+      }

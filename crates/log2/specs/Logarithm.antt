@@ -32,18 +32,14 @@ pub record Threshold (k x : ℕ) : Type 0 where
 unfoldable pub Thresholds : List ℕ → Type 0
 Thresholds l = (k : ℕ) → k < 256 → Threshold k (getD l k 0)
 
--- no entry is above a later one
-unfoldable pub Rising : List ℕ → Type 0
-Rising l = (i j : ℕ) → i ≤ j → j < 256 → getD l i 0 ≤ getD l j 0
-
--- of sixteen entries, at a and then each d places on, m reaches the first n and no more
-pub record Reached (l : List ℕ) (a d m n : ℕ) : Type 0 where
-  pub within : n ≤ 16
-  pub last : 0 < n → getD l (a + d * (n - 1)) 0 ≤ m
-  pub next : n < 16 → m < getD l (a + d * n) 0
-
 -- a mantissa, at least 2^31 and below 2^32, lies at a step of its octave
 pub record StepOf (m k : ℕ) : Type 0 where
   pub within : k < 256
   pub low : 2 ^ (31 * 256 + k) ≤ m ^ 256
   pub high : m ^ 256 < 2 ^ (31 * 256 + k + 1)
+
+-- every mantissa from 2^31 on whose nine bits below the highest are b lies at step g of its octave or at the next
+pub record NearStep (b g : ℕ) : Type 0 where
+  pub within : g ≤ 254
+  pub low : 2 ^ (31 * 256 + g) ≤ (2 ^ 31 + b * 2 ^ 22) ^ 256
+  pub high : (2 ^ 31 + b * 2 ^ 22 + (2 ^ 22 - 1)) ^ 256 < 2 ^ (31 * 256 + g + 2)

@@ -1,7 +1,7 @@
 // The logarithm to base 2 in steps of a 256th (document 01's L), by a table of thresholds.
 ghost use mathlib.Core.Path.{_≡_};
-ghost use Prim.Native.Nat.{_+_, _*_, _<_, _≤_, _^_};
-ghost use Rattle.log2.specs.Logarithm.{logarithm, Thresholds, Rising, Reached, StepOf};
+ghost use Prim.Native.Nat.{_<_, _≤_, _^_};
+ghost use Rattle.log2.specs.Logarithm.{logarithm, Thresholds, NearStep, StepOf};
 
 // For each step k of the octave from 2^31 on, the least mantissa whose 256th power reaches 2^(31 * 256 + k).
 const THRESHOLDS: [u32; 256] = [
@@ -263,50 +263,43 @@ const THRESHOLDS: [u32; 256] = [
     4283353946,
 ];
 
-// The table, as it is searched.
-fn thresholds() -> [u32; 256]
+// The thresholds, to be lent to `log256`.
+pub fn thresholds() -> [u32; 256]
     ensures { λ r. ⌜ Thresholds r ⌝ }
 {
     THRESHOLDS
 }
 
-// Of sixteen thresholds, from one on and then each `by` steps, how many a mantissa reaches. No branch depends on the mantissa.
-fn reached(table: &[u32; 256], from: usize, by: usize, mantissa: u32) -> usize
-    requires { ⌜ Rising (now table) × (from + by * 15 < 256) ⌝ }
-    ensures { λ r. ⌜ Reached (now (table .entry)) from by mantissa r ⌝ }
+// The step of a mantissa within its octave, or one less, from the nine bits below the mantissa's highest: a cubic in them.
+fn near_step(bits: u64) -> u64
+    requires { ⌜ bits < 512 ⌝ }
+    ensures { λ r. ⌜ NearStep bits r ⌝ }
 {
-    let mut n: usize = 0;
-    let mut k: usize = 0;
-    while k < 16 {
-        if table[from + by * k] <= mantissa {
-            n += 1;
-            k += 1;
-        } else {
-            k += 1;
-        }
-    }
-    n
+    let g = (bits * 134_217_728 + bits * (512 - bits) * (109_052 - 78 * bits)) / 268_435_456;
+    if g < 254 { g } else { 254 }
 }
 
-// The step of a mantissa within its octave: first among every sixteenth threshold, then among the sixteen from there on.
-fn step_of(mantissa: u32) -> u32
+// The step of a mantissa within its octave: the near one, or one more where the mantissa reaches the next threshold.
+fn step_of(table: &[u32; 256], mantissa: u32) -> u32
     requires { ⌜ 2 ^ 31 ≤ mantissa ⌝ }
-    ensures { λ r. ⌜ StepOf mantissa r ⌝ }
+    ensures { λ r. ⌜ (Thresholds (now (table .entry)) → StepOf mantissa r) ⌝ }
+    ensures within { λ r. ⌜ r < 256 ⌝ }
 {
-    let table = thresholds();
-    let row = (reached(&table, 0, 16, mantissa) - 1) * 16;
-    let step = row + reached(&table, row, 1, mantissa) - 1;
-    step as u32
+    let g = near_step(((mantissa / 4_194_304) % 512) as u64);
+    let i = (g + 1) as usize;
+    let more = if table[i] <= mantissa { 1 } else { 0 };
+    (g as u32) + more
 }
 
-// L(n), for every n; L(0) is 0.
-pub fn log256(n: u32) -> u32
-    ensures { λ r. ⌜ r ≡ logarithm n ⌝ }
+// L(n), for every n, where the table is that of the thresholds; L(0) is 0. With any table it is at most 8191.
+pub fn log256(table: &[u32; 256], n: u32) -> u32
+    ensures { λ r. ⌜ (Thresholds (now (table .entry)) → r ≡ logarithm n) ⌝ }
+    ensures within { λ r. ⌜ r ≤ 8191 ⌝ }
 {
     if n == 0 {
         return 0;
     }
     let zeros = u32::leading_zeros(n);
-    let step = step_of(n << zeros);
+    let step = step_of(table, n << zeros);
     (31 - zeros) * 256 + step
 }

@@ -16,13 +16,13 @@ use Rattle.model.specs.Report.{dominoOf}
 use Rattle.model.specs.Faults.{Context, start, role, fault, contextAfter, contextAfterAll}
 use Rattle.model.specs.Verdict.{bodyLength, decode, cut, contentOf, Verdict, unclosed, closed, refused, judgeLeft, judge, verdict}
 use Rattle.model.specs.Calls.{Bytes, totalsOf, targetReportOf, noTarget}
-use Rattle.model.specs.Machine.{State, withReading, refusedWith, reading, begun, taken, core, ownFaultIn, faultIn, effectState, accepted, recordRead, step, readAll, fresh, totalsIn, targetIn, markedIn}
+use Rattle.model.specs.Machine.{State, withReading, refusedWith, reading, begun, taken, core, ownFaultIn, faultIn, effectState, accepted, recordRead, cleared, step, readAll, fresh, totalsIn, targetIn, markedIn}
 use Rattle.model.proofs.ListLaws.{each-append, each-parts}
 use Rattle.model.proofs.ContextLaws.{after-append}
 use Rattle.model.proofs.Accepts.{Accepts, Fits, WholeBytes}
 use Rattle.model.proofs.CodecLaws.{decode-fits, pending-decode, body-most}
 use Rattle.model.proofs.CutLaws.{Left, nothing, unknown, short, cut-joined, cut-each, cut-left}
-use Rattle.model.proofs.ReadLaws.{Ready, partial, read-stays, read-whole, read-short}
+use Rattle.model.proofs.ReadLaws.{Ready, partial, afterRecord, read-stays, read-whole, read-short}
 use Rattle.model.proofs.Follows.{pile, aboves, Placed, Follows, same-fault, follows-record}
 use Rattle.model.proofs.RunData.{Data, dataOf, after, run, data-accepted, run-append}
 
@@ -54,7 +54,7 @@ pub record Here (s : State) (x : Context) (rs : List Record) : Type 0 where
 abbrev pub Closes : Type 0
 Closes = (s : State) (x : Context) (rs : List Record) (n t total : ℕ) (l : List ℕ) → Here s x rs → fault x (closingRec n t) ≡ 0 → length l ≤ 13
     → s .core .reading .place + length l ≤ total
-    → ClosedState (accepted (partial s l) (closingRec n t)) total (s .core .reading .place + length l) (contentOf rs)
+    → ClosedState (afterRecord s l (closingRec n t)) total (s .core .reading .place + length l) (contentOf rs)
 
 pub ready : (s : State) (x : Context) → Follows s x → Ready s
 ready s x f =
@@ -83,8 +83,12 @@ part-data : (s : State) (l : List ℕ) → dataOf (partial s l) ≡ dataOf s
 unfolding partial
 part-data s l = refl
 
+cleared-data : (s : State) → dataOf (cleared s) ≡ dataOf s
+unfolding cleared
+cleared-data s = refl
+
 here-more : (s : State) (x : Context) (rs : List Record) (l : List ℕ) (r : Record) → Here s x rs → length l ≤ 13 → fault x r ≡ 0 → (role r ≡ 7 → ⊥) → Fits r
-    → Here (accepted (partial s l) r) (contextAfter x r) (rs ++ (r ∷ []))
+    → Here (afterRecord s l r) (contextAfter x r) (rs ++ (r ∷ []))
 here-more s x rs l r h w e n f =
     record {
       follows = follows-record s x l r (h .follows) w e n;
@@ -92,7 +96,8 @@ here-more s x rs l r h w e n f =
       context = context-more start rs r ∙ ap (λ (y : Context). contextAfter y r) (h .context);
       fits = fits-more rs r (h .fits) f;
       figures =
-          data-accepted (partial s l) r
+          cleared-data (accepted (partial s l) r)
+          ∙ data-accepted (partial s l) r
           ∙ ap (λ (d : Data). after d r) (part-data s l ∙ h .figures)
           ∙ sym (run-append (dataOf fresh) rs (r ∷ []) ∙ run-one (run (dataOf fresh) rs) r);
     }
@@ -127,11 +132,11 @@ whole-few b w = let m = body-most (w .kind) in let f = w .whole .full in let e =
 
 -- a whole record is read at once
 pub read-record : (s : State) (x : Context) (b rest : List ℕ) → Follows s x → WholeBytes b
-    → readAll s (b ++ rest) ≡ readAll (recordRead (partial s b) (decode b)) rest
+    → readAll s (b ++ rest) ≡ readAll (cleared (recordRead (partial s b) (decode b))) rest
 read-record s x b rest f w =
     rw (w .same)
     (read-whole s (w .kind) (w .body) rest (ready s x f) (w .whole .known) (w .whole .full) (body-most (w .kind))
-    ∙ ap (λ (r : Record). readAll (recordRead (partial s (w .kind ∷ w .body)) r) rest) (part-decode s (w .kind ∷ w .body) again))
+    ∙ ap (λ (r : Record). readAll (cleared (recordRead (partial s (w .kind ∷ w .body)) r)) rest) (part-decode s (w .kind ∷ w .body) again))
   where
     again : WholeBytes (w .kind ∷ w .body)
     again = record { kind = w .kind; body = w .body; same = refl; whole = w .whole }
@@ -181,14 +186,14 @@ read-left s x l total f (short k b n h) e =
 
 -- a refused study
 refused-state : (s : State) (l rest : List ℕ) (n total : ℕ)
-    → Agrees (readAll (withReading (partial s l) (refusedWith (partial s l .core .reading) n)) rest) total (refused n (s .core .reading .place))
-unfolding Agrees withReading refusedWith partial
+    → Agrees (readAll (cleared (withReading (partial s l) (refusedWith (partial s l .core .reading) n))) rest) total (refused n (s .core .reading .place))
+unfolding Agrees cleared withReading refusedWith partial
 refused-state s l rest n total =
     subst (λ (v : State). Agrees v total (refused n (s .core .reading .place)))
-    (sym (read-stays (withReading (partial s l) (refusedWith (partial s l .core .reading) n)) rest (λ z. omega arith))) (refl, refl, refl)
+    (sym (read-stays (cleared (withReading (partial s l) (refusedWith (partial s l .core .reading) n))) rest (λ z. omega arith))) (refl, refl, refl)
 
-accepted-place : (s : State) (l : List ℕ) (r : Record) → accepted (partial s l) r .core .reading .place ≡ s .core .reading .place + length l
-unfolding accepted effectState partial taken
+accepted-place : (s : State) (l : List ℕ) (r : Record) → afterRecord s l r .core .reading .place ≡ s .core .reading .place + length l
+unfolding cleared accepted effectState partial taken
 accepted-place s l (openingRec n) = refl
 accepted-place s l (targetRec n t) = refl
 accepted-place s l (leakRec n f) = refl
@@ -200,9 +205,9 @@ accepted-place s l (closingRec n t) = refl
 -- one whole record and then more, given what holds after a record that is taken
 module _ (closes : Closes) (b rest : List ℕ) (s : State) (x : Context) (rs : List Record) (total : ℕ) (h : Here s x rs) (w : WholeBytes b) (y : Bytes b)
     (e : s .core .reading .place + (length b + length rest) ≡ total) (v : Verdict)
-    (ih : fault x (decode b) ≡ 0 → (role (decode b) ≡ 7 → ⊥) → Agrees (readAll (accepted (partial s b) (decode b)) rest) total v) where
-  taken-on : fault x (decode b) ≡ 0 → readAll s (b ++ rest) ≡ readAll (accepted (partial s b) (decode b)) rest
-  taken-on f = read-record s x b rest (h .follows) w ∙ ap (λ (u : State). readAll u rest) (record-taken s x b (decode b) (h .follows) f)
+    (ih : fault x (decode b) ≡ 0 → (role (decode b) ≡ 7 → ⊥) → Agrees (readAll (afterRecord s b (decode b)) rest) total v) where
+  taken-on : fault x (decode b) ≡ 0 → readAll s (b ++ rest) ≡ readAll (afterRecord s b (decode b)) rest
+  taken-on f = read-record s x b rest (h .follows) w ∙ ap (λ (u : State). readAll (cleared u) rest) (record-taken s x b (decode b) (h .follows) f)
 
   closing-on : fault x (decode b) ≡ 0 → role (decode b) ≡ 7 → Agrees (readAll s (b ++ rest)) total (closed (s .core .reading .place + length b) (contentOf rs))
   unfolding Agrees
@@ -211,9 +216,9 @@ module _ (closes : Closes) (b rest : List ℕ) (s : State) (x : Context) (rs : L
       let g : fault x (closingRec (c .0) (c .1)) ≡ 0 = rw (c .2) at f in
       let z = closes s x rs (c .0) (c .1) total b h g (whole-few b w) (omega arith) in
       let p = z .phase in
-      let q : readAll s (b ++ rest) ≡ accepted (partial s b) (closingRec (c .0) (c .1)) =
-      taken-on f ∙ ap (λ (r : Record). readAll (accepted (partial s b) r) rest) (c .2)
-      ∙ read-stays (accepted (partial s b) (closingRec (c .0) (c .1))) rest (λ n. omega arith) in
+      let q : readAll s (b ++ rest) ≡ afterRecord s b (closingRec (c .0) (c .1)) =
+      taken-on f ∙ ap (λ (r : Record). readAll (afterRecord s b r) rest) (c .2)
+      ∙ read-stays (afterRecord s b (closingRec (c .0) (c .1))) rest (λ n. omega arith) in
       subst (λ (u : State). ClosedState u total (s .core .reading .place + length b) (contentOf rs)) (sym q) z
 
   one-record : Dec (fault x (decode b) ≡ 0) → Dec (role (decode b) ≡ 7)
@@ -224,7 +229,7 @@ module _ (closes : Closes) (b rest : List ℕ) (s : State) (x : Context) (rs : L
   one-record (no n) d =
       subst (Agrees (readAll s (b ++ rest)) total) (ne-case _ _ _ _ n refl)
       (subst (λ (u : State). Agrees u total (refused (fault x (decode b)) (s .core .reading .place)))
-      (sym (read-record s x b rest (h .follows) w ∙ ap (λ (u : State). readAll u rest) (record-refused s x b (decode b) (h .follows) n)))
+      (sym (read-record s x b rest (h .follows) w ∙ ap (λ (u : State). readAll (cleared u) rest) (record-refused s x b (decode b) (h .follows) n)))
       (refused-state s b rest (fault x (decode b)) total))
   one-record (yes f) (yes k) =
       subst (Agrees (readAll s (b ++ rest)) total) (eq-case _ _ _ _ f (eq-case _ _ _ _ k refl)) (closing-on f k)
@@ -287,8 +292,8 @@ module _ (closes : Closes) where
       rw a
       (one-record closes b rest s x rs total h (w .0) (y .0) (omega arith) (judge (contextAfter x (decode b)) (s .core .reading .place + length b) (rs ++ (decode b ∷ [])) bs left)
       (λ f k.
-      subst (λ (q : ℕ). Agrees (readAll (accepted (partial s b) (decode b)) rest) total (judge (contextAfter x (decode b)) q (rs ++ (decode b ∷ [])) bs left)) p
-      (agrees bs left (accepted (partial s b) (decode b)) (contextAfter x (decode b)) (rs ++ (decode b ∷ [])) total
+      subst (λ (q : ℕ). Agrees (readAll (afterRecord s b (decode b)) rest) total (judge (contextAfter x (decode b)) q (rs ++ (decode b ∷ [])) bs left)) p
+      (agrees bs left (afterRecord s b (decode b)) (contextAfter x (decode b)) (rs ++ (decode b ∷ [])) total
       (here-more s x rs b (decode b) h (whole-few b (w .0)) f k (decode-fits b (y .0) (w .0))) (w .1) (y .1) v (omega arith)))
       (ℕ-discrete (fault x (decode b)) 0) (ℕ-discrete (role (decode b)) 7))
 

@@ -20,8 +20,8 @@ use Rattle.model.specs.Valid.{Valid}
 use Rattle.model.specs.Report.{targetAt, kindTotal, unjudgedOf, sumAt, marginAt, listedAt, dominoOf}
 use Rattle.model.specs.Verdict.{contentOf}
 use Rattle.model.specs.Calls.{totalsOf, targetReportOf, noTarget}
-use Rattle.model.specs.Machine.{State, oneRecord, taken, markOf, unpackedFacts, rowAt, accepted, fresh, totalsIn, rowReport, targetIn, markedIn}
-use Rattle.model.proofs.ReadLaws.{partial}
+use Rattle.model.specs.Machine.{State, oneRecord, taken, markOf, unpackedFacts, rowAt, accepted, cleared, fresh, totalsIn, rowReport, targetIn, markedIn}
+use Rattle.model.proofs.ReadLaws.{partial, afterRecord}
 use Rattle.model.proofs.RunData.{dataOf, run}
 use Rattle.model.proofs.Agreement.{Closes}
 use Rattle.model.proofs.Sound.{accepted-valid}
@@ -39,8 +39,8 @@ record Kept (s : State) (l : List ℕ) (n t : ℕ) (v : State) : Type 0 where
   margins : v .margins ≡ s .margins
   facts : v .facts ≡ s .facts
 
-kept : (s : State) (l : List ℕ) (n t : ℕ) → Kept s l n t (accepted (partial s l) (closingRec n t))
-unfolding accepted partial taken
+kept : (s : State) (l : List ℕ) (n t : ℕ) → Kept s l n t (afterRecord s l (closingRec n t))
+unfolding cleared accepted partial taken
 kept s l n t = record { phase = refl; place = refl; counts = refl; tally = refl; sums = refl; margins = refl; facts = refl }
 
 -- two tests that agree below n find the same numbers there
@@ -120,7 +120,7 @@ closes s x rs n t total l h f w e =
     let g : run (dataOf fresh) (openRecords c) ≡ dataOf s = ap (run (dataOf fresh)) (a .same) ∙ sym (h .figures) in
     let r : Reported c (dataOf s) = subst (Reported c) g (run-content c (a .valid)) in
     let k = kept s l n t in
-    let u : State = accepted (partial s l) (closingRec n t) in
+    let u : State = afterRecord s l (closingRec n t) in
     let p : ℕ = s .core .reading .place + length l in
     let tg : u .core .counts .targets ≡ s .core .counts .targets = kept-targets s (u .core .counts) (k .counts) in
     record {

@@ -15,13 +15,13 @@ use Rattle.model.specs.Valid.{Each}
 use Rattle.model.specs.Faults.{Context, start, role, fault, counted, contextAfter}
 use Rattle.model.specs.Verdict.{bodyLength, decode, cut}
 use Rattle.model.specs.Calls.{joined}
-use Rattle.model.specs.Machine.{State, state, core, store, oneRecord, taken, begun, reading, refusedWith, withReading, accepted, recordRead, step, readAll, fresh}
+use Rattle.model.specs.Machine.{State, state, core, store, oneRecord, taken, begun, reading, refusedWith, withReading, accepted, recordRead, cleared, step, readAll, fresh}
 use Rattle.model.specs.MachineTheorems.{FarBelow, NeverSaturates}
 use Rattle.model.proofs.Accepts.{WholeBytes}
 use Rattle.model.proofs.CodecLaws.{body-most}
 use Rattle.model.proofs.CutLaws.{Left, nothing, unknown, short, cut-joined, cut-each, cut-left}
 use Rattle.model.proofs.FaultLaws.{fault-facts}
-use Rattle.model.proofs.ReadLaws.{partial, read-stays, read-short}
+use Rattle.model.proofs.ReadLaws.{partial, afterRecord, read-stays, read-short}
 use Rattle.model.proofs.Follows.{Follows, follows-record, one-record}
 use Rattle.model.proofs.Agreement.{ready, closing-role, whole-few, read-record, record-taken, record-refused, follows-fresh}
 use Rattle.model.proofs.CallLaws.{cuts-make-no-difference}
@@ -118,40 +118,40 @@ opening-few b w e = go (ℕ-discrete (getD b 0 0) 1)
 
 -- a closing record without fault, and a record that is refused: what follows them changes nothing
 closing-far : (s : State) (x : Context) (b rest : List ℕ) (n t : ℕ) → Follows s x → Bounded s x → length b ≤ 13 → fault x (closingRec n t) ≡ 0
-    → FarBelow (readAll (accepted (partial s b) (closingRec n t)) rest)
-unfolding accepted partial taken
+    → FarBelow (readAll (afterRecord s b (closingRec n t)) rest)
+unfolding cleared accepted partial taken
 closing-far s x b rest n t w k h f =
     let z = fault-facts x (closingRec n t) f .few in
     let p = w .place in
     let c : oneRecord (s .core .counts) ≡ counted (x .counts) = ap oneRecord (w .counts) ∙ one-record (x .counts) z in
-    subst FarBelow (sym (read-stays (accepted (partial s b) (closingRec n t)) rest (λ z. omega arith)))
-    (far-below s (accepted (partial s b) (closingRec n t)) x w k refl refl refl refl (ap (λ (c : Counts). c .targets) c) (ap (λ (c : Counts). c .scenarios) c) (ap (λ (c : Counts). c .leaks) c)
+    subst FarBelow (sym (read-stays (afterRecord s b (closingRec n t)) rest (λ z. omega arith)))
+    (far-below s (afterRecord s b (closingRec n t)) x w k refl refl refl refl (ap (λ (c : Counts). c .targets) c) (ap (λ (c : Counts). c .scenarios) c) (ap (λ (c : Counts). c .leaks) c)
     (rw c (omega arith)) (omega arith))
 
 refused-far : (s : State) (x : Context) (b rest : List ℕ) (n : ℕ) → Follows s x → Bounded s x → length b ≤ 13
-    → FarBelow (readAll (withReading (partial s b) (refusedWith (partial s b .core .reading) n)) rest)
-unfolding withReading refusedWith partial
+    → FarBelow (readAll (cleared (withReading (partial s b) (refusedWith (partial s b .core .reading) n))) rest)
+unfolding cleared withReading refusedWith partial
 refused-far s x b rest n w k h =
-    let v : State = withReading (partial s b) (refusedWith (partial s b .core .reading) n) in
+    let v : State = cleared (withReading (partial s b) (refusedWith (partial s b .core .reading) n)) in
     subst FarBelow (sym (read-stays v rest (λ z. omega arith))) (far-on s v x w k refl refl refl refl refl (omega arith))
 
 -- one whole record and then more, given what holds after a record that is taken
 far-record : (s : State) (x : Context) (b rest : List ℕ) → Follows s x → Bounded s x → WholeBytes b
-    → (Follows (accepted (partial s b) (decode b)) (contextAfter x (decode b)) → Bounded (accepted (partial s b) (decode b)) (contextAfter x (decode b))
-    → FarBelow (readAll (accepted (partial s b) (decode b)) rest)) → FarBelow (readAll s (b ++ rest))
+    → (Follows (afterRecord s b (decode b)) (contextAfter x (decode b)) → Bounded (afterRecord s b (decode b)) (contextAfter x (decode b))
+    → FarBelow (readAll (afterRecord s b (decode b)) rest)) → FarBelow (readAll s (b ++ rest))
 far-record s x b rest w k y ih = subst FarBelow (sym (read-record s x b rest w y)) (go (ℕ-discrete (fault x (decode b)) 0) (ℕ-discrete (role (decode b)) 7))
   where
     few : length b ≤ 13
     few = whole-few b y
 
-    closing : fault x (decode b) ≡ 0 → (n : ℕ) × (t : ℕ) × (decode b ≡ closingRec n t) → FarBelow (readAll (accepted (partial s b) (decode b)) rest)
+    closing : fault x (decode b) ≡ 0 → (n : ℕ) × (t : ℕ) × (decode b ≡ closingRec n t) → FarBelow (readAll (afterRecord s b (decode b)) rest)
     closing f c = rw (c .2) (closing-far s x b rest (c .0) (c .1) w k few (rw (c .2) at f))
 
-    taken-on : fault x (decode b) ≡ 0 → Dec (role (decode b) ≡ 7) → FarBelow (readAll (accepted (partial s b) (decode b)) rest)
+    taken-on : fault x (decode b) ≡ 0 → Dec (role (decode b) ≡ 7) → FarBelow (readAll (afterRecord s b (decode b)) rest)
     taken-on f (yes c) = closing f (closing-role (decode b) c)
     taken-on f (no c) = ih (follows-record s x b (decode b) w few f c) (bounded-record s x b (decode b) w k few (opening-few b y) f c)
 
-    go : Dec (fault x (decode b) ≡ 0) → Dec (role (decode b) ≡ 7) → FarBelow (readAll (recordRead (partial s b) (decode b)) rest)
+    go : Dec (fault x (decode b) ≡ 0) → Dec (role (decode b) ≡ 7) → FarBelow (readAll (cleared (recordRead (partial s b) (decode b))) rest)
     go (yes f) d = rw (record-taken s x b (decode b) w f) (taken-on f d)
     go (no n) d = rw (record-refused s x b (decode b) w n) (refused-far s x b rest (fault x (decode b)) w k few)
 

@@ -1,9 +1,9 @@
 -- The machine keeps what the context of the records so far says. Assumes nothing.
 use mathlib.Core.Path.{_≡_, refl, sym, _∙_, ap, ap₂}
-use mathlib.Core.List.{List, [], _∷_, _++_}
+use mathlib.Core.List.{List, [], _∷_}
 use Prim.Native.Nat.{ℕ, zero, suc, _+_, _-_, _*_, _<_, _≤_, min}
 use native.Mathlib.Omega.{arith}
-use lib.ListN.{length, getD, drop, length-append, length-drop}
+use lib.ListN.{length, getD, drop}
 use Rattle.numeric.specs.Share.{splitOf}
 use Rattle.numeric.proofs.ChoiceLaws.{eq-case}
 use Rattle.state.specs.declared.Counts.{Counts}
@@ -12,8 +12,8 @@ use Rattle.model.specs.Content.{Branching, chance}
 use Rattle.model.specs.Format.{Record, openingRec, targetRec, leakRec, branchingRec, outcomeRec, effectRec, closingRec}
 use Rattle.model.specs.Valid.{Each}
 use Rattle.model.specs.Faults.{Context, role, ownFault, fault, counted, declaring, leaking, branched, contextAfter}
-use Rattle.model.specs.Machine.{State, most16, most32, most64, taken, oneRecord, oneTarget, oneLeak, frequencyOf, aboveOf, top, leakStack, branchStack, leakBranch, branchedBranch, outcomeBranch, effectBranch, ownFaultIn, faultIn, effectState, accepted}
-use Rattle.model.proofs.ReadLaws.{partial}
+use Rattle.model.specs.Machine.{State, most16, most32, most64, taken, oneRecord, oneTarget, oneLeak, frequencyOf, aboveOf, top, leakStack, branchStack, leakBranch, branchedBranch, outcomeBranch, effectBranch, ownFaultIn, faultIn, effectState, accepted, cleared}
+use Rattle.model.proofs.ReadLaws.{partial, afterRecord}
 use Rattle.model.proofs.FaultLaws.{order-facts, target-facts, leak-facts, branching-facts, fault-facts}
 use Rattle.model.proofs.StackLaws.{above-packed, frequency-packed, top-at, first-le, second-le, branched-length, branched-first, branched-second, branched-below, leak-length, leak-next}
 
@@ -144,10 +144,6 @@ module _ (l : List ℕ) (n p f a : ℕ) (size : length l ≡ 9) (next : getD l n
       (ap₂ _∷_ (branched-second l (suc n) n f a p refl low shallow next small size)
       (pile-same (branchStack l (suc n) p) l n (branched-below l (suc n) n f a p refl low shallow next small size)))
 
--- the pending bytes keep their number
-pending-length : (b p : List ℕ) → length b ≤ 13 → length p ≡ 16 → length (b ++ drop (length b) p) ≡ 16
-pending-length b p h w = length-append b (drop (length b) p) ∙ (let d = length-drop (length b) p in omega arith)
-
 -- a record that changes no tree: an opening, a target, an effect
 unchanged : (s s' : State) (x x' : Context) → Follows s x
     → s' .core .reading .phase ≡ 0 → s' .core .reading .have ≡ 0 → s' .core .reading .place ≤ s .core .reading .place + 13 → length (s' .pending) ≡ 16
@@ -186,8 +182,8 @@ zero-placed = (omega arith, omega arith, tt)
 
 -- a leak
 follows-leak : (s : State) (x : Context) (b : List ℕ) (n f : ℕ) → Follows s x → length b ≤ 13 → fault x (leakRec n f) ≡ 0
-    → Follows (accepted (partial s b) (leakRec n f)) (contextAfter x (leakRec n f))
-unfolding accepted partial taken contextAfter leakBranch ownFault
+    → Follows (afterRecord s b (leakRec n f)) (contextAfter x (leakRec n f))
+unfolding cleared accepted partial taken contextAfter leakBranch ownFault
 follows-leak s x b n f w h e =
     let z = fault-facts x (leakRec n f) e in
     let r = leak-facts _ _ _ _ (z .own) in
@@ -199,7 +195,7 @@ follows-leak s x b n f w h e =
       reads = refl;
       none = refl;
       place = omega arith;
-      wide = pending-length b (s .pending) h (w .wide);
+      wide = refl;
       counts = ap (λ (k : Counts). oneLeak k n f) (w .counts) ∙ one-leak (x .counts) n f (z .few) (r .few) (r .most) (w .leaks);
       left = w .left;
       kind = w .kind;
@@ -269,8 +265,8 @@ both-placed a l h k p = (omega arith, omega arith, (omega arith, omega arith, p)
 
 -- a branching
 branching-at : (s : State) (x : Context) (l : List ℕ) (b : Branching) → Follows s x → length l ≤ 13 → NextTree s x → x .counts .records < mostRecords → ownFault x (branchingRec b) ≡ 0
-    → Follows (accepted (partial s l) (branchingRec b)) (contextAfter x (branchingRec b))
-unfolding accepted partial taken contextAfter branchedBranch ownFault
+    → Follows (afterRecord s l (branchingRec b)) (contextAfter x (branchingRec b))
+unfolding cleared accepted partial taken contextAfter branchedBranch ownFault
 branching-at s x l b w h t z1 z2 =
     let n : ℕ = t .below in
     let a : ℕ = aboveOf (getD (s .stack) n 0) in
@@ -288,7 +284,7 @@ branching-at s x l b w h t z1 z2 =
       reads = refl;
       none = refl;
       place = omega (arith, z1);
-      wide = pending-length l (s .pending) h (w .wide);
+      wide = refl;
       counts = ap oneRecord (w .counts) ∙ one-record (x .counts) z1;
       left = w .left;
       kind = w .kind;
@@ -307,15 +303,15 @@ branching-at s x l b w h t z1 z2 =
     branched-is t a l e = rw e refl
 
 follows-branching : (s : State) (x : Context) (l : List ℕ) (b : Branching) → Follows s x → length l ≤ 13 → fault x (branchingRec b) ≡ 0
-    → Follows (accepted (partial s l) (branchingRec b)) (contextAfter x (branchingRec b))
+    → Follows (afterRecord s l (branchingRec b)) (contextAfter x (branchingRec b))
 follows-branching s x l b w h e =
     let z = fault-facts x (branchingRec b) e in
     branching-at s x l b w h (next-tree s x w (order-facts _ _ _ _ _ (z .order) .branching refl .2)) (z .few) (z .own)
 
 -- an outcome
 outcome-at : (s : State) (x : Context) (l : List ℕ) (o n : ℕ) → Follows s x → length l ≤ 13 → NextTree s x → x .counts .records < mostRecords
-    → Follows (accepted (partial s l) (outcomeRec o n)) (contextAfter x (outcomeRec o n))
-unfolding accepted partial taken contextAfter outcomeBranch
+    → Follows (afterRecord s l (outcomeRec o n)) (contextAfter x (outcomeRec o n))
+unfolding cleared accepted partial taken contextAfter outcomeBranch
 outcome-at s x l o n w h t z1 =
     let m : s .core .branch .height - 1 ≡ t .below = omega (arith, t .height) in
     let d : drop 1 (x .trees) ≡ aboves (pile (s .stack) (t .below)) = rw (t .trees) refl in
@@ -324,7 +320,7 @@ outcome-at s x l o n w h t z1 =
       reads = refl;
       none = refl;
       place = omega (arith, z1);
-      wide = pending-length l (s .pending) h (w .wide);
+      wide = refl;
       counts = ap oneRecord (w .counts) ∙ one-record (x .counts) z1;
       left = refl;
       kind = refl;
@@ -340,29 +336,29 @@ outcome-at s x l o n w h t z1 =
     }
 
 follows-outcome : (s : State) (x : Context) (l : List ℕ) (o n : ℕ) → Follows s x → length l ≤ 13 → fault x (outcomeRec o n) ≡ 0
-    → Follows (accepted (partial s l) (outcomeRec o n)) (contextAfter x (outcomeRec o n))
+    → Follows (afterRecord s l (outcomeRec o n)) (contextAfter x (outcomeRec o n))
 follows-outcome s x l o n w h e =
     let z = fault-facts x (outcomeRec o n) e in
     outcome-at s x l o n w h (next-tree s x w (order-facts _ _ _ _ _ (z .order) .outcome refl .2)) (z .few)
 
 -- every record without fault but the closing one
 pub follows-record : (s : State) (x : Context) (l : List ℕ) (r : Record) → Follows s x → length l ≤ 13 → fault x r ≡ 0 → (role r ≡ 7 → ⊥)
-    → Follows (accepted (partial s l) r) (contextAfter x r)
-unfolding accepted partial taken contextAfter effectState effectBranch ownFault
+    → Follows (afterRecord s l r) (contextAfter x r)
+unfolding cleared accepted partial taken contextAfter effectState effectBranch ownFault
 follows-record s x l (openingRec n) w h e c =
     let z = fault-facts x (openingRec n) e in
-    unchanged s _ x _ w refl refl (omega arith) (pending-length l (s .pending) h (w .wide)) refl refl refl
+    unchanged s _ x _ w refl refl (omega arith) refl refl refl refl
     (ap oneRecord (w .counts) ∙ one-record (x .counts) (z .few)) (w .left) (w .kind) (w .next) refl (z .few) (w .targets) refl refl
 follows-record s x l (targetRec n t) w h e c =
     let z = fault-facts x (targetRec n t) e in
     let r = target-facts _ _ t (z .own) in
-    unchanged s _ x _ w refl refl (omega arith) (pending-length l (s .pending) h (w .wide)) refl refl refl
+    unchanged s _ x _ w refl refl (omega arith) refl refl refl refl
     (ap oneTarget (w .counts) ∙ one-target (x .counts) (z .few) (r .few)) (w .left) (w .kind) (w .next) refl (z .few) (omega arith) refl refl
 follows-record s x l (leakRec n f) w h e c = follows-leak s x l n f w h e
 follows-record s x l (branchingRec b) w h e c = follows-branching s x l b w h e
 follows-record s x l (outcomeRec o n) w h e c = follows-outcome s x l o n w h e
 follows-record s x l (effectRec f) w h e c =
     let z = fault-facts x (effectRec f) e in
-    unchanged s _ x _ w refl refl (omega arith) (pending-length l (s .pending) h (w .wide)) refl refl refl
+    unchanged s _ x _ w refl refl (omega arith) refl refl refl refl
     (ap oneRecord (w .counts) ∙ one-record (x .counts) (z .few)) (ap (λ (u : ℕ). u - 1) (w .left)) (w .kind) refl refl (z .few) (w .targets) refl refl
 follows-record s x l (closingRec n t) w h e c = absurd (c refl)

@@ -2,14 +2,17 @@
 use mathlib.Core.Path.{_≡_, refl, sym, _∙_, ap}
 use mathlib.Core.List.{List, [], _∷_, _++_, append-assoc, append-nil}
 use Prim.Native.Nat.{ℕ, suc, _+_, _-_, _<_, _≤_, min}
+use native.Mathlib.Decide.{ℕ-discrete}
 use native.Mathlib.Omega.{arith}
 use native.Mathlib.Numerals.{add-one}
 use lib.ListN.{length, getD, set, drop, length-append}
 use lib.Seq.{drop-cons, set-at}
 use Rattle.numeric.proofs.ChoiceLaws.{eq-case, ne-case, le-case, gt-case, lt-case}
 use Rattle.state.specs.declared.Reading.{Reading}
+use Rattle.state.specs.declared.Core.{Core}
+use Rattle.model.specs.Format.{Record, openingRec, targetRec, leakRec, branchingRec, outcomeRec, effectRec, closingRec}
 use Rattle.model.specs.Verdict.{bodyLength, decode}
-use Rattle.model.specs.Machine.{State, state, most64, store, reading, begun, grown, core, recordRead, ended, body, step, readAll}
+use Rattle.model.specs.Machine.{State, state, most64, store, reading, begun, grown, core, faultIn, effectState, accepted, withReading, recordRead, cleared, ended, body, step, readAll}
 
 -- bytes of two lists, one after the other
 pub read-append : (s : State) (a b : List ℕ) → readAll s (a ++ b) ≡ readAll (readAll s a) b
@@ -36,6 +39,10 @@ partial s l =
     state
     (core (reading 0 (length l) (s .core .reading .place + length l) (s .core .reading .place) 0 0) (s .core .counts) (s .core .branch) (s .core .tally))
     (l ++ drop (length l) (s .pending)) (s .stack) (s .sums) (s .margins) (s .facts)
+
+-- the study once the record of these bytes is taken
+abbrev pub afterRecord : State → List ℕ → Record → State
+afterRecord s l r = cleared (accepted (partial s l) r)
 
 -- the kind byte of a known kind
 pub read-kind : (s : State) (k : ℕ) → Ready s → (bodyLength k ≡ 0 → ⊥) → step s k ≡ partial s (k ∷ [])
@@ -82,7 +89,7 @@ unfolding ended partial
 ended-not s k b h = sym (gt-case _ _ _ _ (omega arith) refl)
 
 ended-now : (s : State) (k : ℕ) (b : List ℕ) → length b ≡ bodyLength k
-    → ended (partial s (k ∷ b)) ≡ recordRead (partial s (k ∷ b)) (decode (partial s (k ∷ b) .pending))
+    → ended (partial s (k ∷ b)) ≡ cleared (recordRead (partial s (k ∷ b)) (decode (partial s (k ∷ b) .pending)))
 unfolding ended partial
 ended-now s k b h = sym (le-case _ _ _ _ (omega arith) refl)
 
@@ -101,7 +108,7 @@ read-part s k a (x ∷ b) r h m =
 -- the rest of a record, to its last byte, whatever comes after
 read-rest : (s : State) (k : ℕ) (a b rest : List ℕ) → Ready s → 0 < length b → length a + length b ≡ bodyLength k → bodyLength k ≤ 12
     → readAll (partial s (k ∷ a)) (b ++ rest)
-    ≡ readAll (recordRead (partial s (k ∷ (a ++ b))) (decode (partial s (k ∷ (a ++ b)) .pending))) rest
+    ≡ readAll (cleared (recordRead (partial s (k ∷ (a ++ b))) (decode (partial s (k ∷ (a ++ b)) .pending)))) rest
 unfolding readAll
 read-rest s k a [] rest r z h m = let w : ⊥ = omega arith in absurd w
 read-rest s k a (x ∷ []) rest r z h m =
@@ -113,11 +120,11 @@ read-rest s k a (x ∷ y ∷ b) rest r z h m =
     ap (λ (u : State). readAll u ((y ∷ b) ++ rest))
     (read-more s (k ∷ a) x r (omega arith) (omega arith) ∙ ended-not s k (a ++ (x ∷ [])) (omega arith))
     ∙ read-rest s k (a ++ (x ∷ [])) (y ∷ b) rest r (omega arith) (omega arith) m
-    ∙ ap (λ (u : List ℕ). readAll (recordRead (partial s (k ∷ u)) (decode (partial s (k ∷ u) .pending))) rest) (append-assoc a (x ∷ []) (y ∷ b))
+    ∙ ap (λ (u : List ℕ). readAll (cleared (recordRead (partial s (k ∷ u)) (decode (partial s (k ∷ u) .pending)))) rest) (append-assoc a (x ∷ []) (y ∷ b))
 
 -- a whole record
 pub read-whole : (s : State) (k : ℕ) (b rest : List ℕ) → Ready s → (bodyLength k ≡ 0 → ⊥) → length b ≡ bodyLength k → bodyLength k ≤ 12
-    → readAll s ((k ∷ b) ++ rest) ≡ readAll (recordRead (partial s (k ∷ b)) (decode (partial s (k ∷ b) .pending))) rest
+    → readAll s ((k ∷ b) ++ rest) ≡ readAll (cleared (recordRead (partial s (k ∷ b)) (decode (partial s (k ∷ b) .pending)))) rest
 unfolding readAll
 read-whole s k b rest r h w m =
     ap (λ (u : State). readAll u (b ++ rest)) (read-kind s k r h) ∙ read-rest s k [] b rest r (omega arith) (omega arith) m
@@ -128,3 +135,29 @@ pub read-short : (s : State) (k : ℕ) (b : List ℕ) → Ready s → length b <
 unfolding readAll
 read-short s k b r h m =
     ap (λ (u : State). readAll u b) (read-kind s k r (omega arith)) ∙ read-part s k [] b r (omega arith) m
+
+-- ---- the pending bytes of a record that is read
+
+-- they may as well be cleared before
+cleared-accepted : (s : State) (r : Record) → cleared (accepted s r) ≡ accepted (cleared s) r
+unfolding cleared accepted effectState
+cleared-accepted s (openingRec n) = refl
+cleared-accepted s (targetRec n t) = refl
+cleared-accepted s (leakRec n f) = refl
+cleared-accepted s (branchingRec b) = refl
+cleared-accepted s (outcomeRec k n) = refl
+cleared-accepted s (effectRec e) = refl
+cleared-accepted s (closingRec n t) = refl
+
+cleared-before : (s : State) (r : Record) → cleared (recordRead s r) ≡ recordRead (cleared s) r
+unfolding recordRead cleared withReading
+cleared-before s r = go (ℕ-discrete (faultIn (s .core) (s .stack) r) 0)
+  where
+    go : Dec (faultIn (s .core) (s .stack) r ≡ 0) → cleared (recordRead s r) ≡ recordRead (cleared s) r
+    go (yes e) = ap cleared (sym (eq-case _ _ _ _ e refl)) ∙ eq-case _ _ _ _ e (cleared-accepted s r)
+    go (no n) = ap cleared (sym (ne-case _ _ _ _ n refl)) ∙ ne-case _ _ _ _ n refl
+
+-- once they are cleared it does not matter what the pending bytes were
+pub cleared-same : (c : Core) (p q k s m f : List ℕ) (r : Record) → cleared (recordRead (state c p k s m f) r) ≡ cleared (recordRead (state c q k s m f) r)
+unfolding cleared
+cleared-same c p q k s m f r = cleared-before (state c p k s m f) r ∙ sym (cleared-before (state c q k s m f) r)

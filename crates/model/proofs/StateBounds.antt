@@ -17,12 +17,12 @@ use Rattle.model.specs.Sums.{sumOver}
 use Rattle.model.specs.Content.{Branching, chance, Effect, targetOf}
 use Rattle.model.specs.Format.{Record, openingRec, targetRec, leakRec, branchingRec, outcomeRec, effectRec, closingRec}
 use Rattle.model.specs.Faults.{Context, start, role, ownFault, fault, contextAfter}
-use Rattle.model.specs.Machine.{State, upTo, most32, most64, store, taken, frequencyOf, aboveOf, top, leakStack, branchStack, leakBranch, branchedBranch, outcomeBranch, effectBranch, studyTally, kindGrown, outcomeTally, effectTally, rowAfter, effectState, accepted, fresh}
+use Rattle.model.specs.Machine.{State, upTo, most32, most64, store, taken, frequencyOf, aboveOf, top, leakStack, branchStack, leakBranch, branchedBranch, outcomeBranch, effectBranch, studyTally, kindGrown, outcomeTally, effectTally, rowAfter, effectState, accepted, cleared, fresh}
 use Rattle.model.proofs.OutcomeLaws.{split-total}
 use Rattle.model.proofs.Totals.{one-kind}
 use Rattle.model.proofs.StackLaws.{stored-length, stored-here, stored-other, frequency-packed, top-at}
 use Rattle.model.proofs.FaultLaws.{fault-facts, order-facts, leak-facts, branching-facts, outcome-facts, effect-facts}
-use Rattle.model.proofs.ReadLaws.{partial}
+use Rattle.model.proofs.ReadLaws.{partial, afterRecord}
 use Rattle.model.proofs.Follows.{pile, Follows, aboves, aboves-length, pile-length, height-is, placed-few, next-tree, leak-pile, branch-pile}
 
 -- the frequencies of the trees still to come, in all
@@ -131,8 +131,8 @@ same-figures s s' x x' k su ma ki un ab le ne fr pl re wa =
 -- ---- each kind of record keeps the bounds
 
 bounded-leak : (s : State) (x : Context) (l : List ℕ) (n f : ℕ) → Follows s x → Bounded s x → length l ≤ 13 → fault x (leakRec n f) ≡ 0
-    → Bounded (accepted (partial s l) (leakRec n f)) (contextAfter x (leakRec n f))
-unfolding accepted partial taken contextAfter leakBranch ownFault
+    → Bounded (afterRecord s l (leakRec n f)) (contextAfter x (leakRec n f))
+unfolding cleared accepted partial taken contextAfter leakBranch ownFault
 bounded-leak s x l n f w k h e =
     let z = fault-facts x (leakRec n f) e in
     let o = order-facts _ _ _ _ _ (z .order) .leak refl in
@@ -141,8 +141,8 @@ bounded-leak s x l n f w k h e =
     same-figures s _ x _ k refl refl refl refl refl refl refl refl (λ r. omega arith) (omega arith) (omega arith)
 
 bounded-branching : (s : State) (x : Context) (l : List ℕ) (b : Branching) → Follows s x → Bounded s x → length l ≤ 13 → fault x (branchingRec b) ≡ 0
-    → Bounded (accepted (partial s l) (branchingRec b)) (contextAfter x (branchingRec b))
-unfolding accepted partial taken contextAfter branchedBranch ownFault
+    → Bounded (afterRecord s l (branchingRec b)) (contextAfter x (branchingRec b))
+unfolding cleared accepted partial taken contextAfter branchedBranch ownFault
 bounded-branching s x l b w k h e =
     let z = fault-facts x (branchingRec b) e in
     let o = order-facts _ _ _ _ _ (z .order) .branching refl in
@@ -164,8 +164,8 @@ bounded-branching s x l b w k h e =
         rw (m, g) (branch-waiting (s .stack) n (chance b) (w .nine) low shallow small)
 
 bounded-outcome : (s : State) (x : Context) (l : List ℕ) (o n : ℕ) → Follows s x → Bounded s x → length l ≤ 13 → fault x (outcomeRec o n) ≡ 0
-    → Bounded (accepted (partial s l) (outcomeRec o n)) (contextAfter x (outcomeRec o n))
-unfolding accepted partial taken contextAfter outcomeBranch ownFault
+    → Bounded (afterRecord s l (outcomeRec o n)) (contextAfter x (outcomeRec o n))
+unfolding cleared accepted partial taken contextAfter outcomeBranch ownFault
 bounded-outcome s x l o n w k h e =
     let z = fault-facts x (outcomeRec o n) e in
     let c = order-facts _ _ _ _ _ (z .order) .outcome refl in
@@ -204,8 +204,8 @@ module _ (most : ℕ) (l : List ℕ) (i v : ℕ) (size : length l ≡ 256) (insi
       go (no n) = let a = stored-other 256 l i t (upTo most (getD l i 0) v) n in omega arith
 
 effect-state : (s : State) (x : Context) (l : List ℕ) (e : Effect) (j : Judged) → Bounded s x → length l ≤ 13 → 0 < x .counts .records → 0 < s .core .branch .left
-    → s .core .branch .next ≤ targetOf e → targetOf e < 256 → Bounded (effectState (partial s l) (targetOf e) j) (contextAfter x (effectRec e))
-unfolding effectState partial taken contextAfter effectBranch effectTally rowAfter
+    → s .core .branch .next ≤ targetOf e → targetOf e < 256 → Bounded (cleared (effectState (partial s l) (targetOf e) j)) (contextAfter x (effectRec e))
+unfolding cleared effectState partial taken contextAfter effectBranch effectTally rowAfter
 effect-state s x l e j k h c left next inside =
     let i : ℕ = targetOf e in
     let b : ℕ = x .counts .leaks - waiting s in
@@ -232,7 +232,7 @@ effect-state s x l e j k h c left next inside =
     }
 
 bounded-effect : (s : State) (x : Context) (l : List ℕ) (e : Effect) → Follows s x → Bounded s x → length l ≤ 13 → fault x (effectRec e) ≡ 0
-    → Bounded (accepted (partial s l) (effectRec e)) (contextAfter x (effectRec e))
+    → Bounded (afterRecord s l (effectRec e)) (contextAfter x (effectRec e))
 unfolding accepted ownFault
 bounded-effect s x l e w k h f =
     let z = fault-facts x (effectRec e) f in
@@ -243,8 +243,8 @@ bounded-effect s x l e w k h f =
 
 -- every record without fault but the closing one
 pub bounded-record : (s : State) (x : Context) (l : List ℕ) (r : Record) → Follows s x → Bounded s x → length l ≤ 13 → (role r ≡ 1 → length l ≤ 5)
-    → fault x r ≡ 0 → (role r ≡ 7 → ⊥) → Bounded (accepted (partial s l) r) (contextAfter x r)
-unfolding accepted partial taken contextAfter studyTally
+    → fault x r ≡ 0 → (role r ≡ 7 → ⊥) → Bounded (afterRecord s l r) (contextAfter x r)
+unfolding cleared accepted partial taken contextAfter studyTally
 bounded-record s x l (openingRec n) w k h o e c =
     let z = fault-facts x (openingRec n) e in
     let p = w .place in

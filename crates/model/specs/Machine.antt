@@ -257,11 +257,15 @@ recordRead s r =
     (accepted s r)
     (withReading s (refusedWith (s .core .reading) (faultIn (s .core) (s .stack) r)))
 
+-- the pending bytes are forgotten once their record is read
+unfoldable pub cleared : State → State
+cleared s = state (s .core) (replicate 16 0) (s .stack) (s .sums) (s .margins) (s .facts)
+
 -- ---- a byte
 
 -- the record is read once it is whole
 unfoldable pub ended : State → State
-ended s = ifLe (bodyLength (getD (s .pending) 0 0)) (s .core .reading .have - 1) (recordRead s (decode (s .pending))) s
+ended s = ifLe (bodyLength (getD (s .pending) 0 0)) (s .core .reading .have - 1) (cleared (recordRead s (decode (s .pending)))) s
 
 -- one byte more of a record that has begun
 unfoldable pub body : State → ℕ → State

@@ -9,7 +9,7 @@ pub struct Branches {
     pub second: u64,
 }
 
-// frequency × chance / 1,000,000 rounded down, for every u64. The product is taken in two parts, so that neither wraps.
+// frequency × chance / 1,000,000 rounded down, for every u64. A product that might wrap is taken in two parts.
 pub fn share(frequency: u64, chance: u32) -> u64
     ensures { λ r. ⌜ r ≡ shareOf frequency chance ⌝ }
 {
@@ -17,6 +17,9 @@ pub fn share(frequency: u64, chance: u32) -> u64
         return frequency;
     }
     let c = chance as u64;
+    if frequency <= 18_446_744_073_709 {
+        return frequency * c / 1_000_000;
+    }
     let high = frequency / 1_000_000 * c;
     let low = frequency % 1_000_000 * c;
     high + low / 1_000_000

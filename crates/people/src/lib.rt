@@ -1,24 +1,25 @@
-// The chance of death at a place of people.
+// The chance of death at a place of people. The caller lends both tables: the logarithm's thresholds and the probit's rows.
 ghost use mathlib.Core.Path.{_≡_};
 ghost use Prim.Native.Nat.{_+_, _*_, _/_, _≤_, min};
-ghost use Rattle.log2.specs.Logarithm.{logarithm};
+ghost use Rattle.log2.specs.Logarithm.{logarithm, Thresholds};
+ghost use Rattle.probit.specs.Table.{RowsReached};
 ghost use Rattle.probit.specs.Chance.{chanceOf};
 ghost use Rattle.terms.specs.Terms.{seconds};
 ghost use Rattle.people.specs.Death.{fireProbit, settingShare, fireDeath, flashDeath, blastDeath, deathOf};
 use terms::Judged;
 
 // (4 L(Q) + 3 L(t)) × 693,147 / 300, rounded down.
-fn dose(q: u32, t: u32) -> u64
-    ensures { λ r. ⌜ r ≡ (4 * logarithm q + 3 * logarithm t) * 693147 / 300 ⌝ }
+fn dose(table: &[u32; 256], q: u32, t: u32) -> u64
+    ensures { λ r. ⌜ (Thresholds (now (table .entry)) → r ≡ (4 * logarithm q + 3 * logarithm t) * 693147 / 300) ⌝ }
 {
-    let heat = log2::log256(q) as u64;
-    let time = log2::log256(t) as u64;
+    let heat = log2::log256(table, q) as u64;
+    let time = log2::log256(table, t) as u64;
     (4 * heat + 3 * time) * 693_147 / 300
 }
 
-// Outdoors, 14 hundredths of the probit's chance.
+// Outdoors, 14 hundredths of the probit's chance, which is at most 1,146,000 with any tables.
 fn in_setting(setting: u8, chance: u32) -> u32
-    requires { ⌜ chance ≤ 1000000 ⌝ }
+    requires { ⌜ chance ≤ 1146000 ⌝ }
     ensures { λ r. ⌜ r ≡ settingShare setting chance ⌝ }
 {
     if setting == 1 {
@@ -34,15 +35,24 @@ fn least(x: u16, y: u16) -> u32
 }
 
 // The chance by the probit of a fire.
-fn by_probit(constant: u32, q: u32, t: u32) -> u32
-    ensures { λ r. ⌜ r ≡ chanceOf (fireProbit constant q t) ⌝ }
+fn by_probit(table: &[u32; 256], rows: &[u8; 544], constant: u32, q: u32, t: u32) -> u32
+    ensures { λ r. ⌜ (Thresholds (now (table .entry)) → RowsReached (now (rows .entry)) → r ≡ chanceOf (fireProbit constant q t)) ⌝ }
+    ensures { λ r. ⌜ r ≤ 1146000 ⌝ }
 {
-    probit::chance(dose(q, t), constant as u64)
+    probit::chance(rows, dose(table, q, t), constant as u64)
 }
 
 // Heat in W/m² for a duration. The longest time that counts and the probit's constant go by the clock.
-fn fire(longest: u16, constant: u32, setting: u8, q: u32, duration: u16) -> u32
-    ensures { λ r. ⌜ r ≡ fireDeath longest constant setting q duration ⌝ }
+fn fire(
+    table: &[u32; 256],
+    rows: &[u8; 544],
+    longest: u16,
+    constant: u32,
+    setting: u8,
+    q: u32,
+    duration: u16,
+) -> u32
+    ensures { λ r. ⌜ (Thresholds (now (table .entry)) → RowsReached (now (rows .entry)) → r ≡ fireDeath longest constant setting q duration) ⌝ }
 {
     if 35_000 <= q {
         return 1_000_000;
@@ -54,7 +64,7 @@ fn fire(longest: u16, constant: u32, setting: u8, q: u32, duration: u16) -> u32
         return 0;
     }
     let t = least(duration, longest);
-    let chance = by_probit(constant, q, t);
+    let chance = by_probit(table, rows, constant, q, t);
     in_setting(setting, chance)
 }
 
@@ -82,8 +92,15 @@ fn blast(setting: u8, pa: u32) -> u32
 }
 
 // The chance of death, by outcome kind, setting, intensity and duration in seconds.
-pub fn death(kind: u8, setting: u8, intensity: u32, duration: u16) -> Judged
-    ensures { λ r. ⌜ r ≡ deathOf seconds kind setting intensity duration ⌝ }
+pub fn death(
+    table: &[u32; 256],
+    rows: &[u8; 544],
+    kind: u8,
+    setting: u8,
+    intensity: u32,
+    duration: u16,
+) -> Judged
+    ensures { λ r. ⌜ (Thresholds (now (table .entry)) → RowsReached (now (rows .entry)) → r ≡ deathOf seconds kind setting intensity duration) ⌝ }
 {
     if kind == 5 {
         return Judged {
@@ -105,7 +122,7 @@ pub fn death(kind: u8, setting: u8, intensity: u32, duration: u16) -> Judged
     }
     if kind <= 3 {
         return Judged {
-            chance: fire(20, 36_380_000, setting, intensity, duration),
+            chance: fire(table, rows, 20, 36_380_000, setting, intensity, duration),
             judged: true,
         };
     }

@@ -4,26 +4,26 @@ use mathlib.Core.Bool.{Bool, true, false}
 use mathlib.Core.List.{List, [], _∷_, _++_, List·Memᴰ, List·Memᴰ·head, List·Memᴰ·tail, List·Memᴰ·cases-cons, List·Memᴰ·not-nil}
 use mathlib.Core.Logic.{_⊎_, inl, inr, ⊎-elim}
 use Prim.Native.Nat.{ℕ, zero, suc, _+_, _-_, _*_, _/_, _<_, _≤_, max, min}
-use native.Mathlib.Nat.{add-zero, sub-zero, zero-max, max-zero, zero-mul, suc-mul, le-of-suc-le-suc, not-suc-le-zero, le-trans, lt-of-lt-of-le, le-of-eq, max-le}
+use native.Mathlib.Nat.{add-zero, sub-zero, zero-max, max-zero, zero-mul, suc-mul, not-suc-le-zero, le-trans, lt-of-lt-of-le, le-of-eq, max-le}
 use native.Mathlib.Decide.{decLe}
 use native.Mathlib.Omega.{arith}
-use lib.Dec.{T, leb, leb→le, le→leb}
-use lib.IntN.{ℤ, pos, negsuc, _-ℤ_, subℕ}
+use lib.Dec.{T, leb, ltb, leb→le, ltb→lt}
+use lib.IntN.{ℤ, pos, negsuc, _-ℤ_}
 use lib.Signed.{leZ, leZ-yes, _≤ℤ_}
 use lib.ListN.{length, getD, List·getD-append}
 use lib.Seq.{getD-append-add}
-use borrow.Author.Tests.{lt-ltb, le-ltb, le-leb, lt-leb, leb-true}
+use borrow.Author.Tests.{lt-ltb, le-ltb, le-leb, lt-leb}
 use Rattle.numeric.specs.Choice.{pick}
-use Rattle.numeric.proofs.TableLaws.{both, both-left, both-right, rising}
-use Rattle.probit.specs.Table.{Row, rowsFrom, wholePercents, tenthsOfPercent, probits, probitTable, FirstRows}
-use Rattle.probit.specs.Chance.{greatestChance, chanceOf, Reached, Unreached, ChanceRule}
+use Rattle.numeric.proofs.TableLaws.{both, both-left, both-right, every, entry, getD-entry, at, rising}
+use Rattle.probit.specs.Table.{Row, rowsFrom, wholePercents, tenthsOfPercent, probits, probitTable, FirstRows, RowsReached}
+use Rattle.probit.specs.Chance.{greatestChance, chanceOf, ChanceRule}
 
 -- a difference of two naturals, by its sign
-pub difference-pos : (a b : ℕ) → b ≤ a → pos a -ℤ pos b ≡ pos (a - b)
+difference-pos : (a b : ℕ) → b ≤ a → pos a -ℤ pos b ≡ pos (a - b)
 difference-pos a zero h = ap pos (add-zero a ∙ sym (sub-zero a))
 difference-pos a (suc b) h = rw (le-ltb a (suc b) h) refl
 
-pub difference-neg : (a b : ℕ) → a < b → pos a -ℤ pos b ≡ negsuc (b - suc a)
+difference-neg : (a b : ℕ) → a < b → pos a -ℤ pos b ≡ negsuc (b - suc a)
 difference-neg a zero h = absurd (not-suc-le-zero h)
 difference-neg a (suc b) h = rw (lt-ltb a (suc b) h) refl
 
@@ -33,9 +33,23 @@ unfolding greatestChance
 none-negative [] k = refl
 none-negative (r ∷ rs) k = none-negative rs k
 
-pub chance-negative : (k : ℕ) → chanceOf (negsuc k) ≡ 0
+chance-negative : (k : ℕ) → chanceOf (negsuc k) ≡ 0
 unfolding chanceOf
 chance-negative k = none-negative probitTable k
+
+-- nor does 0, so a difference may stop there
+chance-of-zero : chanceOf (pos 0) ≡ 0
+unfolding chanceOf probitTable greatestChance
+chance-of-zero = refl
+
+pub chance-difference : (a b : ℕ) → chanceOf (pos a -ℤ pos b) ≡ chanceOf (pos (a - b))
+chance-difference a b = go (decLe b a)
+  where
+    go : Dec (b ≤ a) → chanceOf (pos a -ℤ pos b) ≡ chanceOf (pos (a - b))
+    go (yes h) = ap chanceOf (difference-pos a b h)
+    go (no h) =
+        let z : a - b ≡ 0 = omega arith in
+        rw z (ap chanceOf (difference-neg a b (omega arith)) ∙ chance-negative (b - suc a) ∙ sym chance-of-zero)
 
 -- the rows of two lists joined
 chance-append : (a b : List Row) (y : ℕ) → greatestChance (a ++ b) (pos y) ≡ max (greatestChance a (pos y)) (greatestChance b (pos y))
@@ -129,19 +143,63 @@ chance-percents y n f h =
     chance-rows y n f ∙ rw (m, d) (ap (λ (x : ℕ). max x 0) (ofRows-whole n) ∙ max-zero (n * 10000))
 
 -- above, a tenth of a percent each
-pub chance-tenths : (y n : ℕ) → FirstRows (y / 10000) n → 99 < n → chanceOf (pos y) ≡ 990000 + (n - 99) * 1000
+pub chance-tenths : (y n : ℕ) → FirstRows (y / 10000) n → 99 < n → chanceOf (pos y) ≡ 891000 + n * 1000
 chance-tenths y n f h =
     let m : min n 99 ≡ 99 = omega arith in
     let e = ofRows-tenths (n - 99) (omega arith) in
     let g = ofRows-whole 99 in
     chance-rows y n f ∙ rw m (omega arith)
 
--- the table rises: with a row, all before it are reached, or all after it are not
-pub reached-before : (h m : ℕ) → m < 108 → getD probits m 0 ≤ h → (i : ℕ) → i < m + 1 → getD probits i 0 ≤ h
-reached-before h m w l i k = le-trans (rising probits tt i m (omega arith) w) l
+-- the last of n rows is reached at h hundredths, and the next is not
+abbrev pub reaches : ℕ → ℕ → Bool
+reaches h zero = true
+reaches h (suc m) = leb (getD probits m 0) h
 
-pub beyond-after : (h m : ℕ) → h < getD probits m 0 → (i : ℕ) → m ≤ i → i < 108 → h < getD probits i 0
-beyond-after h m l i k w = lt-of-lt-of-le l (rising probits tt m i k w)
+abbrev pub stops : ℕ → ℕ → Bool
+stops h n = pick (leb 108 n) true (ltb h (getD probits n 0))
+
+-- the test of an entry n at place i
+abbrev pub rowsAt : ℕ → ℕ → Bool
+rowsAt i n = both (leb n 108) (both (reaches (266 + i) n) (stops (266 + i) n))
+
+-- the table rises, so the other rows follow
+reached-all : (h n : ℕ) → n ≤ 108 → T (reaches h n) → (i : ℕ) → i < n → getD probits i 0 ≤ h
+reached-all h zero w t i k = absurd (not-suc-le-zero k)
+reached-all h (suc m) w t i k = le-trans (rising probits tt i m (omega arith) w) (leb→le _ _ t)
+
+beyond-all : (h n : ℕ) → T (stops h n) → (i : ℕ) → n ≤ i → i < 108 → h < getD probits i 0
+beyond-all h n t i k w =
+    let e : leb 108 n ≡ false = lt-leb 108 n (omega arith) in
+    let u : T (ltb h (getD probits n 0)) = rw e at t in
+    lt-of-lt-of-le (ltb→lt _ _ u) (rising probits tt n i k w)
+
+first-of : (i n : ℕ) → T (rowsAt i n) → FirstRows (266 + i) n
+first-of i n t =
+    let r : Bool = reaches (266 + i) n in
+    let s : Bool = stops (266 + i) n in
+    let u : T (both r s) = both-right (leb n 108) (both r s) t in
+    let w : n ≤ 108 = leb→le n 108 (both-left (leb n 108) (both r s) t) in
+    record { within = w; reached = reached-all (266 + i) n w (both-left r s u); beyond = beyond-all (266 + i) n (both-right r s u) }
+
+-- a table that passes the test at each entry has the rows reached
+pub rows-at : (l : List ℕ) → length l ≡ 544 → T (every rowsAt 0 l) → RowsReached l
+unfolding RowsReached
+rows-at l e t i h = rw (getD-entry l i) (first-of i (entry l i) (at rowsAt l t i (omega arith)))
+
+-- no row has a probit below 267 hundredths or above 809
+row-range : (k : ℕ) → k < 108 → (267 ≤ getD probits k 0) × (getD probits k 0 ≤ 809)
+row-range k w = (rising probits tt 0 k (omega arith) w, rising probits tt k 107 (omega arith) (omega arith))
+
+-- so below the table no row is reached, and above it all are
+pub rows-found : (l : List ℕ) (y i n : ℕ) → RowsReached l → i ≡ min ((y - 2660000) / 10000) 543 → n ≡ getD l i 0 → FirstRows (y / 10000) n
+unfolding RowsReached
+rows-found l y i n t e q =
+    let f : FirstRows (266 + i) n = rw q (t i (omega arith)) in
+    record {
+      within = f .within;
+      reached = λ k a. let w = f .within in omega (arith, f .reached k a, row-range k (omega arith));
+      beyond = λ k a b. omega (arith, f .beyond k a b, row-range k b);
+    }
 
 -- 01's words, over any rows
 None : ℤ → List Row → Type 0

@@ -45,3 +45,7 @@ pub record FirstRows (h n : ℕ) : Type 0 where
   pub within : n ≤ 108
   pub reached : (i : ℕ) → i < n → getD probits i 0 ≤ h
   pub beyond : (i : ℕ) → n ≤ i → i < 108 → h < getD probits i 0
+
+-- a table of how many rows are reached at each hundredth from 266, which reaches none, to 809, which reaches all
+unfoldable pub RowsReached : List ℕ → Type 0
+RowsReached l = (i : ℕ) → i < 544 → FirstRows (266 + i) (getD l i 0)

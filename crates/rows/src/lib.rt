@@ -1,5 +1,7 @@
 // What a study keeps of one target.
 ghost use mathlib.Core.Path.{_≡_};
+ghost use Rattle.log2.specs.Logarithm.{Thresholds};
+ghost use Rattle.probit.specs.Table.{RowsReached};
 ghost use Rattle.terms.specs.Terms.{seconds};
 ghost use Rattle.vulnerability.specs.Effect.{effectOn};
 ghost use Rattle.model.specs.Machine.{packedFacts, unpackedFacts, markedFacts, rowAfter};
@@ -28,11 +30,19 @@ fn unpack_facts(x: u64) -> Target
     }
 }
 
-// The chance that an outcome of a kind brings to the target with these facts, and whether a rule judged it.
-pub fn judge_effect(kind: u8, facts: u64, intensity: u32, duration: u16) -> Judged
-    ensures { λ r. ⌜ r ≡ effectOn seconds (unpackedFacts facts) kind intensity duration ⌝ }
+// The chance that an outcome of a kind brings to the target with these facts, and whether a rule judged it. The tables are those of the logarithm
+// and of the probits.
+pub fn judge_effect(
+    table: &[u32; 256],
+    rows: &[u8; 544],
+    kind: u8,
+    facts: u64,
+    intensity: u32,
+    duration: u16,
+) -> Judged
+    ensures { λ r. ⌜ (Thresholds (now (table .entry)) → RowsReached (now (rows .entry)) → r ≡ effectOn seconds (unpackedFacts facts) kind intensity duration) ⌝ }
 {
-    vulnerability::effect(unpack_facts(facts), kind, intensity, duration)
+    vulnerability::effect(table, rows, unpack_facts(facts), kind, intensity, duration)
 }
 
 // Equipment is marked by an effect that lists it.
@@ -48,13 +58,14 @@ fn mark(x: u64, chance: u32, leak: u64) -> u64
     x
 }
 
-// An effect of a chance on one target.
+// An effect of a chance on one target. A chance of 0 changes the margin alone.
 pub fn add_effect(w: Row, b: Branch, chance: u32) -> Row
     ensures { λ r. ⌜ r ≡ rowAfter w b chance ⌝ }
+    ensures { λ r. ⌜ (chance ≡ 0 → (r .sum ≡ w .sum) × (r .facts ≡ w .facts)) ⌝ }
 {
     Row {
         sum: numeric::add64(w.sum, numeric::share(b.frequency, chance)),
-        margin: numeric::add32(w.margin, (b.above as u32) + 1),
+        margin: numeric::add32(w.margin, numeric::add32(b.above, 1)),
         facts: mark(w.facts, chance, b.leak),
     }
 }

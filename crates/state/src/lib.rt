@@ -1,55 +1,59 @@
 // The parts of a study that go by value, and the answers of its calls. The rules stand in the crate model, the code in the crate study.
 
+// The widest fields come first, and the others fill whole words but for one, two or four bytes: what is left over is then copied in one step.
+
 // Where the reading stands.
 pub struct Reading {
-    // 0 reading, 1 closed, 2 refused
-    pub phase: u8,
-    // bytes of the record that has begun
-    pub have: u8,
     // bytes read so far
     pub place: u64,
     // place of the record's first byte
     pub start: u64,
-    // the kept refusal and its place
-    pub number: u8,
+    // place of the kept refusal
     pub at: u64,
+    // 0 reading, 1 closed, 2 refused
+    pub phase: u32,
+    // bytes of the record that has begun
+    pub have: u8,
+    // the kept refusal
+    pub number: u8,
 }
 
 // What the records so far add up to.
 pub struct Counts {
+    // sum of the leak frequencies
+    pub leaks: u64,
     pub records: u32,
-    pub targets: u16,
     pub scenarios: u32,
     // number of the last scenario
     pub last: u32,
-    // sum of the leak frequencies
-    pub leaks: u64,
+    pub targets: u16,
 }
 
 // Where in a tree the reading stands.
 pub struct Branch {
-    // trees still to come
-    pub height: u8,
-    // effects still to come, and the least target that the next may name
-    pub left: u16,
-    pub next: u32,
     // the leak's frequency
     pub leak: u64,
-    // the outcome's kind, frequency and branchings above
-    pub kind: u8,
+    // the outcome's frequency, branchings above and kind
     pub frequency: u64,
-    pub above: u8,
+    pub above: u32,
+    // the least target that the next effect may name
+    pub next: u32,
+    // effects still to come
+    pub left: u16,
+    // trees still to come
+    pub height: u8,
+    pub kind: u8,
 }
 
 // Totals of the study.
 pub struct Tally {
-    pub study: u32,
     pub kind0: u64,
     pub kind1: u64,
     pub kind2: u64,
     pub kind3: u64,
     pub kind4: u64,
     pub kind5: u64,
+    pub study: u32,
     pub unjudged: u32,
 }
 

@@ -1,142 +1,88 @@
 -- What a piece's bytes do when they are read record by record. Assumes nothing.
-use mathlib.Core.Path.{_≡_, refl, sym, _∙_, ap}
-use mathlib.Core.Logic.{_⊎_, inl, inr}
-use mathlib.Core.List.{List, [], _∷_, _++_, append-nil, append-assoc}
-use Prim.Native.Nat.{ℕ, suc, _+_, _-_, _<_, _≤_}
+use mathlib.Core.Path.{_≡_, refl, sym, _∙_, ap, subst}
+use mathlib.Core.Bool.{Bool, true, false}
+use mathlib.Core.Logic.{_⊎_, inl, inr, ⊎-elim}
+use mathlib.Core.List.{List, [], _∷_, _++_, append-nil}
+use Prim.Native.Nat.{ℕ, _+_, _-_, _<_, _≤_}
 use native.Mathlib.Omega.{arith}
 use native.Mathlib.Numerals.{add-one}
-use lib.ListN.{length, getD, set, take, drop, length-drop, length-set, List·getD-append}
-use lib.Seq.{take-suc, take-all, drop-cons, drop-drop, length-take-le, set-at, getD-take, take-add}
-use Rattle.numeric.specs.Choice.{ifEq}
-use Rattle.numeric.proofs.ChoiceLaws.{eq-case, ne-case, eq-both, le-both, lt-both}
+use lib.ListN.{length, getD, set, take, drop, replicate, length-drop, length-set, take-append-drop}
+use lib.Seq.{take-all, drop-cons, drop-drop, getD-drop, length-take-le, take-add}
+use lib.Dec.{T}
+use Rattle.numeric.specs.Choice.{pick, ifEq}
+use Rattle.numeric.proofs.ChoiceLaws.{picked-first, picked-second, eq-both, le-both, lt-both}
 use Rattle.state.specs.declared.Core.{Core}
 use Rattle.state.specs.declared.Reading.{Reading}
-use Rattle.model.specs.Format.{Record, openingRec, targetRec, leakRec, branchingRec, outcomeRec, effectRec, closingRec}
-use Rattle.model.specs.Verdict.{bodyLength, decode, field}
-use Rattle.model.specs.Machine.{State, state, store, faultIn, effectState, accepted, withReading, refusedWith, recordRead, ended, body, step, readAll}
-use Rattle.model.proofs.ReadLaws.{Ready, partial, read-append, read-whole}
-use Rattle.model.proofs.CodecLaws.{body-most}
-use Rattle.taking.proofs.Laws.{decode-effect}
-use Rattle.targets.specs.Judging.{judgedIn}
-use Rattle.study.specs.Spans.{Between, Whole, Span, EffectHere}
-
--- ---- the pending bytes, byte by byte
-
-pub fill-none : (p l : List ℕ) → p ≡ take 0 l ++ drop 0 p
-fill-none p l = refl
-
-pub fill-next : (p q l : List ℕ) (i : ℕ) → q ≡ take i l ++ drop i p → i < length l → length l ≤ 16 → length p ≡ 16
-    → set q i (getD l i 0) ≡ take (i + 1) l ++ drop (i + 1) p
-fill-next p q l i e h m w =
-    let z : i < length p = omega arith in
-    let f : q ≡ take i l ++ (getD p i 0 ∷ drop (suc i) p) = rw (drop-cons p i 0 z) at e in
-    rw (add-one, take-suc l i 0 h, append-assoc (take i l) (getD l i 0 ∷ []) (drop (suc i) p), f)
-    (set-at (take i l) (getD p i 0) (drop (suc i) p) (getD l i 0) i (length-take-le i l (omega arith)))
-
-pub fill-whole : (p q l : List ℕ) (i : ℕ) → q ≡ take i l ++ drop i p → i ≤ length l → length l ≤ i → q ≡ l ++ drop (length l) p
-fill-whole p q l i e h k = let n : i ≡ length l = omega arith in rw (n, take-all (length l) l (omega arith)) at e
+use Rattle.model.specs.Verdict.{bodyLength, decode}
+use Rattle.model.specs.Machine.{State, state, core, reading, store, recordRead, cleared, ended, body, step, readAll}
+use Rattle.model.proofs.Accepts.{WholeBytes}
+use Rattle.model.proofs.ReadLaws.{Ready, partial, read-append, read-whole, cleared-same}
+use Rattle.model.proofs.CodecLaws.{body-most, decode-prefix, pending-decode}
+use Rattle.study.specs.Spans.{Between, lengthOf, Next, afterFirst, Records}
 
 -- ---- a record at once
 
-pub read-record : (s : State) (l : List ℕ) → Between (s .core .reading) → length (s .pending) ≡ 16 → Whole l (length l)
-    → readAll s l ≡ recordRead (partial s l) (decode (partial s l .pending))
-unfolding readAll
-read-record s [] b w h = let z : ⊥ = omega (arith, h .size) in absurd z
-read-record s (k ∷ l) b w h =
-    let r : Ready s = record { reads = b .reads; none = b .none; wide = w; room = b .room } in
-    let e = read-whole s k l [] r (omega (arith, h .known)) (omega (arith, h .size)) (body-most k) in
-    ap (λ (x : List ℕ). readAll s x) (sym (append-nil (k ∷ l))) ∙ e
+-- the parts that go by value where a record of n bytes has been entered
+abbrev pub entering : Core → ℕ → Core
+entering c n = core (reading 0 n (c .reading .place + n) (c .reading .place) 0 0) (c .counts) (c .branch) (c .tally)
 
--- a list of one byte
-pub read-single : (s : State) (l : List ℕ) → length l ≡ 1 → readAll s l ≡ step s (getD l 0 0)
-unfolding readAll
-read-single s [] h = let z : ⊥ = omega arith in absurd z
-read-single s (b ∷ []) h = refl
-read-single s (b ∷ c ∷ l) h = let z : ⊥ = omega arith in absurd z
+-- the bytes of a whole record, read from between two records, leave what the record entered and read leaves
+enter-bytes : (c : Core) (p q k s m f l : List ℕ) (x : ℕ) → Next (c .reading) (x ∷ l) → length p ≡ 16 → length (take (bodyLength x) l) ≡ bodyLength x
+    → readAll (state c p k s m f) (take (bodyLength x + 1) (x ∷ l)) ≡ cleared (recordRead (state (entering c (bodyLength x + 1)) q k s m f) (decode (x ∷ l)))
+unfolding readAll partial
+enter-bytes c p q k s m f l x n w e =
+    let b : List ℕ = take (bodyLength x) l in
+    let r : Ready (state c p k s m f) = record { reads = n .between .reads; none = n .between .none; wide = w; room = n .between .room } in
+    let z : WholeBytes (x ∷ b) = record { kind = x; body = b; same = refl; whole = record { known = omega (arith, n .known); full = e } } in
+    let d : decode (x ∷ l) ≡ decode (x ∷ b) = ap (λ (y : List ℕ). decode (x ∷ y)) (sym (take-append-drop (bodyLength x) l)) ∙ decode-prefix (x ∷ b) (drop (bodyLength x) l) z in
+    let g : length (x ∷ b) ≡ bodyLength x + 1 = omega arith in
+    let t : take (bodyLength x + 1) (x ∷ l) ≡ (x ∷ b) ++ [] = rw add-one (sym (append-nil (x ∷ b))) in
+    rw (t, read-whole (state c p k s m f) x b [] r (omega (arith, n .known)) e (body-most x), pending-decode (x ∷ b) p z, ← d, g)
+    (cleared-same _ _ q k s m f (decode (x ∷ l)))
 
--- no record is longer than thirteen bytes
-pub whole-most : (l : List ℕ) (n : ℕ) → Whole l n → n ≤ 13
-whole-most l n h = let m = body-most (getD l 0 0) in omega (arith, h .size)
-
--- where it is not one byte it is a record
-pub not-single : {A : Type 0} (n : ℕ) → (n ≡ 1) ⊎ A → (n ≡ 1 → ⊥) → A
-not-single n (inl e) h = absurd (h e)
-not-single n (inr a) h = a
-
--- an effect's nine bytes are a whole record
-body-of-effect : bodyLength 6 ≡ 8
-unfolding bodyLength ifEq
-body-of-effect = refl
-
-pub effect-whole : (l : List ℕ) → length l ≡ 9 → getD l 0 0 ≡ 6 → Whole l (length l)
-effect-whole l h k = record { known = rw (k, body-of-effect) (omega arith); size = rw (k, body-of-effect) h }
-
--- the kind byte of the bytes that are put in front
-pub front-kind : (l q p : List ℕ) → q ≡ l ++ drop (length l) p → length l ≡ 9 → getD l 0 0 ≡ 6 → getD q 0 0 ≡ 6
-front-kind l q p e h k = rw (e, List·getD-append l (drop (length l) p) 0 0 (omega arith)) k
-
--- ---- an effect is taken, or refused
-
-module _ (d : Core) (q k sums margins facts : List ℕ) where
-  pub effect-taken : getD q 0 0 ≡ 6 → faultIn d k (decode q) ≡ 0
-      → recordRead (state d q k sums margins facts) (decode q)
-      ≡ effectState (state d q k sums margins facts) (field q 1 2) (judgedIn facts (d .branch .kind) q)
-  unfolding recordRead accepted
-  effect-taken h e = sym (eq-case _ _ _ _ e (rw (decode-effect q h) refl))
-
-  pub effect-refused : (n : ℕ) → n ≡ faultIn d k (decode q) → (n ≡ 0 → ⊥)
-      → recordRead (state d q k sums margins facts) (decode q)
-      ≡ withReading (state d q k sums margins facts) (refusedWith (d .reading) n)
-  unfolding recordRead
-  effect-refused n e h = sym (ne-case _ _ _ _ (rw (← e) h) (rw (← e) refl))
+pub enter-record : (c : Core) (p q k s m f l : List ℕ) → Next (c .reading) l → length p ≡ 16
+    → readAll (state c p k s m f) (take (lengthOf l) l) ≡ cleared (recordRead (state (entering c (lengthOf l)) q k s m f) (decode l))
+enter-record c p q k s m f [] n w = let z : ⊥ = omega (arith, n .room) in absurd z
+enter-record c p q k s m f (x ∷ l) n w =
+    enter-bytes c p q k s m f l x n w (length-take-le (bodyLength x) l (let b = body-most x in omega (arith, n .room)))
 
 -- ---- the pending bytes stay sixteen
 
-abbrev Wide : ℕ → State → Type 0
-Wide n s = length (s .pending) ≡ n
+abbrev Wide : State → Type 0
+Wide s = length (s .pending) ≡ 16
 
-store-wide : (l : List ℕ) (i v : ℕ) → length (store 16 l i v) ≡ length l
+pub store-wide : (l : List ℕ) (i v : ℕ) → length (store 16 l i v) ≡ length l
 unfolding store
 store-wide l i v = lt-both (λ (x : List ℕ). length x ≡ length l) i 16 (set l i v) l (length-set l i v) refl
 
-accepted-wide : (s : State) (r : Record) (n : ℕ) → Wide n s → Wide n (accepted s r)
-unfolding accepted effectState
-accepted-wide s (openingRec x) n h = h
-accepted-wide s (targetRec x t) n h = h
-accepted-wide s (leakRec x f) n h = h
-accepted-wide s (branchingRec b) n h = h
-accepted-wide s (outcomeRec x m) n h = h
-accepted-wide s (effectRec e) n h = h
-accepted-wide s (closingRec x t) n h = h
+ended-wide : (s : State) → Wide s → Wide (ended s)
+unfolding ended cleared
+ended-wide s h = le-both Wide _ _ _ _ refl h
 
-ended-wide : (s : State) (n : ℕ) → Wide n s → Wide n (ended s)
-unfolding ended recordRead withReading
-ended-wide s n h =
-    le-both (Wide n) _ _ _ _ (eq-both (Wide n) _ _ _ _ (accepted-wide s (decode (s .pending)) n h) h) h
-
-step-wide : (s : State) (b n : ℕ) → Wide n s → Wide n (step s b)
+step-wide : (s : State) (b : ℕ) → Wide s → Wide (step s b)
 unfolding step body
-step-wide s b n h =
-    eq-both (Wide n) _ _ _ _
-    (eq-both (Wide n) _ _ _ _ (store-wide (s .pending) 0 b ∙ h)
-    (ended-wide _ n (store-wide (s .pending) (s .core .reading .have) b ∙ h)))
+step-wide s b h =
+    eq-both Wide _ _ _ _
+    (eq-both Wide _ _ _ _ (store-wide (s .pending) 0 b ∙ h)
+    (ended-wide _ (store-wide (s .pending) (s .core .reading .have) b ∙ h)))
     h
 
-read-wide : (s : State) (l : List ℕ) (n : ℕ) → Wide n s → Wide n (readAll s l)
+read-wide : (s : State) (l : List ℕ) → Wide s → Wide (readAll s l)
 unfolding readAll
-read-wide s [] n h = h
-read-wide s (b ∷ l) n h = read-wide (step s b) l n (step-wide s b n h)
+read-wide s [] h = h
+read-wide s (b ∷ l) h = read-wide (step s b) l (step-wide s b h)
 
 pub stays-wide : (t s : State) (l : List ℕ) → t ≡ readAll s l → length (s .pending) ≡ 16 → length (t .pending) ≡ 16
-stays-wide t s l e h = rw e (read-wide s l 16 h)
+stays-wide t s l e h = rw e (read-wide s l h)
 
 -- ---- one part of the bytes after another
 
-pub run-none : (s : State) (l : List ℕ) (i : ℕ) → s ≡ readAll s (take (i - i) (drop i l))
+-- a list of one byte
+pub read-single : (s : State) (l : List ℕ) (i : ℕ) → i < length l → readAll s (take (i + 1 - i) (drop i l)) ≡ step s (getD l i 0)
 unfolding readAll
-run-none s l i = let e : i - i ≡ 0 = omega arith in rw e refl
+read-single s l i h = let e : i + 1 - i ≡ 1 = omega arith in rw (e, drop-cons l i 0 h) refl
 
-pub run-more : (s t r : State) (l : List ℕ) (i j k : ℕ) → i ≤ j → j ≤ k → t ≡ readAll s (take (j - i) (drop i l)) → r ≡ readAll t (take (k - j) (drop j l))
+run-more : (s t r : State) (l : List ℕ) (i j k : ℕ) → i ≤ j → j ≤ k → t ≡ readAll s (take (j - i) (drop i l)) → r ≡ readAll t (take (k - j) (drop j l))
     → r ≡ readAll s (take (k - i) (drop i l))
 run-more s t r l i j k h w e f =
     let a : k - i ≡ (j - i) + (k - j) = omega arith in
@@ -144,61 +90,141 @@ run-more s t r l i j k h w e f =
     let d : drop (j - i) (drop i l) ≡ drop j l = drop-drop (j - i) i l ∙ ap (λ (x : ℕ). drop x l) b in
     rw (a, take-add (j - i) (k - j) (drop i l), d, read-append s (take (j - i) (drop i l)) (take (k - j) (drop j l)), ← e) f
 
--- ---- the part of the bytes from a place on, and the part that is read
+-- ---- the part of the bytes from a place on
 
-abbrev rest : List ℕ → ℕ → List ℕ
+abbrev pub rest : List ℕ → ℕ → List ℕ
 rest l i = take (length l - i) (drop i l)
 
-abbrev pub part : List ℕ → ℕ → ℕ → List ℕ
-part l i n = take (i + n - i) (drop i l)
-
-rest-is : (l : List ℕ) (i : ℕ) → rest l i ≡ drop i l
+pub rest-is : (l : List ℕ) (i : ℕ) → rest l i ≡ drop i l
 rest-is l i = take-all (length l - i) (drop i l) (let d = length-drop i l in omega arith)
 
-rest-length : (l : List ℕ) (i : ℕ) → length (rest l i) ≡ length l - i
-rest-length l i = rw (rest-is l i) (length-drop i l)
+-- an effect has nine bytes
+pub effect-length : (l : List ℕ) → getD l 0 0 ≡ 6 → lengthOf l ≡ 9
+unfolding bodyLength ifEq
+effect-length l h = rw h refl
 
-part-length : (l : List ℕ) (i n : ℕ) → i + n ≤ length l → length (part l i n) ≡ n
-part-length l i n h =
-    let e : i + n - i ≡ n = omega arith in
+-- ---- the records at the front of some bytes
+
+-- the first record alone
+first-alone : (s : State) (l : List ℕ) → cleared (recordRead s (decode l)) ≡ afterFirst s l (lengthOf l)
+unfolding readAll
+first-alone s l = let e : lengthOf l - lengthOf l ≡ 0 = omega arith in rw e refl
+
+pub read-alone : (s : State) (d : Core) (q k u m f l : List ℕ) (n : ℕ) → n ≡ lengthOf l → state d q k u m f ≡ recordRead s (decode l)
+    → state d (replicate 16 0) k u m f ≡ afterFirst s l n
+unfolding cleared
+read-alone s d q k u m f l n h e = rw h (ap cleared e ∙ first-alone s l)
+
+pub records-alone : (l : List ℕ) (n : ℕ) → n ≡ lengthOf l → 16 ≤ length l → Records l n
+records-alone l n h w = let b = body-most (getD l 0 0) in record { first = omega arith; there = omega arith; more = inl h }
+
+-- sixteen bytes have one record at the most
+pub one-record : (s r : State) (l : List ℕ) (n : ℕ) → length l ≡ 16 → Records l n → r ≡ afterFirst s l n → r ≡ cleared (recordRead s (decode l))
+one-record s r l n w h e = ⊎-elim (λ q. (rw q at e) ∙ sym (first-alone s l)) (λ q. let z : ⊥ = omega arith in absurd z) (h .more)
+
+-- whole records from between two records on
+pub front-read : (c : Core) (p q k s m f l : List ℕ) (r : State) (n : ℕ) → Next (c .reading) l → length p ≡ 16 → Records l n
+    → r ≡ afterFirst (state (entering c (lengthOf l)) q k s m f) l n → r ≡ readAll (state c p k s m f) (take n l)
+front-read c p q k s m f l r n h w z e =
+    let a : n ≡ lengthOf l + (n - lengthOf l) = omega (arith, z .first) in
+    let d : take n l ≡ take (lengthOf l) l ++ take (n - lengthOf l) (drop (lengthOf l) l) = ap (λ (x : ℕ). take x l) a ∙ take-add (lengthOf l) (n - lengthOf l) l in
+    rw (d, read-append (state c p k s m f) (take (lengthOf l) l) (take (n - lengthOf l) (drop (lengthOf l) l)), enter-record c p q k s m f l h w) e
+
+-- a loop over records stands at the record at place i
+pub record Standing (l : List ℕ) (i : ℕ) : Type 0 where
+  pub room : i + 16 ≤ length l
+  pub first : lengthOf l ≤ i + lengthOf (drop i l)
+  pub more : (i ≡ 0) ⊎ (lengthOf l + 16 ≤ length l)
+
+-- what it shows there: the record that has been entered at place i leaves what the bytes up to its end leave
+abbrev pub Reached : State → State → List ℕ → ℕ → Type 0
+Reached s t l i = cleared (recordRead t (decode (drop i l))) ≡ afterFirst s l (i + lengthOf (drop i l))
+
+pub standing-start : (l : List ℕ) → 16 ≤ length l → Standing l 0
+standing-start l h = record { room = h; first = omega arith; more = inl refl }
+
+pub reached-start : (s : State) (l : List ℕ) → Reached s s l 0
+reached-start s l = let e : 0 + lengthOf l ≡ lengthOf l = omega arith in rw e (first-alone s l)
+
+pub records-more : (l : List ℕ) (i n : ℕ) → Standing l i → Records (drop i l) n → Records l (i + n)
+records-more l i n s r =
     let d = length-drop i l in
-    rw e (length-take-le n (drop i l) (omega arith))
-
-part-first : (l : List ℕ) (i n : ℕ) → 1 ≤ n → getD (part l i n) 0 0 ≡ getD (rest l i) 0 0
-part-first l i n h =
-    let e : i + n - i ≡ n = omega arith in
-    rw (e, rest-is l i) (getD-take n (drop i l) 0 0 (omega arith))
-
-pub record EffectPart (h : Reading) (l : List ℕ) (i : ℕ) : Type 0 where
-  pub room : i + 9 ≤ length l
-  pub between : Between h
-  pub size : length (part l i 9) ≡ 9
-  pub kind : getD (part l i 9) 0 0 ≡ 6
-
-pub effect-part : (h : Reading) (l : List ℕ) (i : ℕ) → i ≤ length l → EffectHere h (rest l i) → EffectPart h l i
-effect-part h l i w e =
-    let n = rest-length l i in
-    let r : i + 9 ≤ length l = omega (arith, e .there) in
-    record {
-      room = r;
-      between = e .between;
-      size = part-length l i 9 r;
-      kind = rw (part-first l i 9 (omega arith)) (e .kind);
-    }
-
-pub record SpanPart (h : Reading) (l : List ℕ) (i n : ℕ) : Type 0 where
-  pub some : 1 ≤ n
-  pub room : i + n ≤ length l
-  pub whole : (length (part l i n) ≡ 1) ⊎ (Between h × Whole (part l i n) (length (part l i n)))
-
-pub span-part : (h : Reading) (l : List ℕ) (i n : ℕ) → i ≤ length l → Span h (rest l i) n → SpanPart h l i n
-span-part h l i n w e =
-    let k = rest-length l i in
-    let r : i + n ≤ length l = omega (arith, e .there) in
-    record { some = e .some; room = r; whole = go r (e .whole) }
+    record { first = omega (arith, s .first, r .first); there = omega (arith, s .room, r .there); more = ⊎-elim (λ z. go z (r .more)) inr (s .more) }
   where
-    go : i + n ≤ length l → (n ≡ 1) ⊎ (Between h × Whole (rest l i) n) → (length (part l i n) ≡ 1) ⊎ (Between h × Whole (part l i n) (length (part l i n)))
-    go r (inl q) = inl (part-length l i n r ∙ q)
-    go r (inr (b, q)) =
-        let f = part-first l i n (e .some) in
-        inr (b, record { known = rw f (q .known); size = rw f (part-length l i n r ∙ q .size) })
+    go : i ≡ 0 → (n ≡ lengthOf (drop i l)) ⊎ (lengthOf (drop i l) + 16 ≤ length (drop i l)) → (i + n ≡ lengthOf l) ⊎ (lengthOf l + 16 ≤ length l)
+    go z (inl e) = let g : n ≡ lengthOf l = rw z at e in inl (omega arith)
+    go z (inr e) = let g : lengthOf l + 16 ≤ length l = rw z at e in inr g
+
+pub more-read : (s t r : State) (l : List ℕ) (i n : ℕ) → Standing l i → Reached s t l i → Records (drop i l) n → r ≡ afterFirst t (drop i l) n → r ≡ afterFirst s l (i + n)
+more-read s t r l i n z h w e =
+    let j : ℕ = i + lengthOf (drop i l) in
+    let a : i + n - j ≡ n - lengthOf (drop i l) = omega arith in
+    run-more _ (afterFirst s l j) r l (lengthOf l) j (i + n) (z .first) (omega (arith, w .first)) refl
+    (rw (a, ← drop-drop (lengthOf (drop i l)) i l, ← h) e)
+
+pub standing-next : (h : Reading) (l : List ℕ) (i : ℕ) → Records l i → Next h (drop i l) → Standing l i
+standing-next h l i r n =
+    let d = length-drop i l in
+    record { room = omega (arith, n .room, r .there); first = omega (arith, r .first); more = inr (omega (arith, n .room, r .there, r .first)) }
+
+pub reached-next : (s : State) (c : Core) (q k u m f l : List ℕ) (i : ℕ) → Records l i → Next (c .reading) (drop i l)
+    → state c (replicate 16 0) k u m f ≡ afterFirst s l i → Reached s (state (entering c (lengthOf (drop i l))) q k u m f) l i
+reached-next s c q k u m f l i r n e =
+    let j : ℕ = i + lengthOf (drop i l) in
+    let a : j - i ≡ lengthOf (drop i l) = omega arith in
+    run-more _ (state c (replicate 16 0) k u m f) _ l (lengthOf l) i j (r .first) (omega arith) e
+    (rw a (sym (enter-record c (replicate 16 0) q k u m f (drop i l) n refl)))
+
+-- one record is read where the loop stands
+pub one-read : (s : State) (c d : Core) (q k u m f k' u' m' f' l : List ℕ) (i : ℕ) → Reached s (state c q k u m f) l i
+    → state d q k' u' m' f' ≡ recordRead (state c q k u m f) (decode (rest l i)) → state d (replicate 16 0) k' u' m' f' ≡ afterFirst s l (i + lengthOf (drop i l))
+unfolding cleared
+one-read s c d q k u m f k' u' m' f' l i h e =
+    let g : state d q k' u' m' f' ≡ recordRead (state c q k u m f) (decode (drop i l)) = rw (rest-is l i) at e in
+    ap cleared g ∙ h
+
+-- ---- whole records where they stand in the piece, or one byte and the record that it makes whole
+
+-- the bytes that the record stands in: those of the piece from a place on, or the pending ones
+pub either-wide : (b : Bool) (h : Reading) (l p x : List ℕ) (i : ℕ) → (b ≡ true → Next h (rest l i)) → length p ≡ 16 → x ≡ pick b (rest l i) p → 16 ≤ length x
+either-wide true h l p x i n w e = rw e (n refl .room)
+either-wide false h l p x i n w e = rw e (omega arith)
+
+pub either-there : (b : Bool) (l p x : List ℕ) (i n : ℕ) → i < length l → x ≡ pick b (rest l i) p → Records x n → (i < i + pick b n 1) × (i + pick b n 1 ≤ length l)
+either-there true l p x i n h e r =
+    let g : Records (drop i l) n = rw (e, rest-is l i) at r in
+    let d = length-drop i l in
+    (omega (arith, g .first), omega (arith, g .there))
+either-there false l p x i n h e r = (omega arith, omega arith)
+
+-- the byte at a place, the first of those from there on
+first-byte : (s : State) (l : List ℕ) (i : ℕ) → i < length l → step s (getD (rest l i) 0 0) ≡ readAll s (take (i + 1 - i) (drop i l))
+first-byte s l i h =
+    let z : i + 0 ≡ i = omega arith in
+    let e : getD (rest l i) 0 0 ≡ getD l i 0 = rw (rest-is l i, getD-drop i l 0 0, z) refl in
+    rw e (sym (read-single s l i h))
+
+-- what is known where the record, or the byte, has been entered
+pub record EnteredEither (b w : Bool) (c d : Core) (p p' l : List ℕ) (i : ℕ) : Type 0 where
+  pub here : i < length l
+  pub wide : length p ≡ 16
+  pub stays : length p' ≡ length p
+  pub next : b ≡ true → Next (c .reading) (rest l i)
+  pub record-whole : b ≡ true → (w ≡ true) × (d ≡ entering c (lengthOf (rest l i)))
+  pub byte : b ≡ false → (k s m f : List ℕ) → step (state c p k s m f) (getD (rest l i) 0 0) ≡ pick w (cleared (recordRead (state d p' k s m f) (decode p'))) (state d p' k s m f)
+
+pub either-read : (b w : Bool) (c d : Core) (p p' k u m f l x : List ℕ) (i n : ℕ) (r : State) → EnteredEither b w c d p p' l i → w ≡ true → x ≡ pick b (rest l i) p' → Records x n
+    → ((q : List ℕ) → r ≡ afterFirst (state d q k u m f) x n) → r ≡ readAll (state c p k u m f) (take (i + pick b n 1 - i) (drop i l))
+either-read true w c d p p' k u m f l x i n r h t e z g =
+    let a : i + n - i ≡ n = omega arith in
+    let j : Records (drop i l) n = rw (e, rest-is l i) at z in
+    let q = rw (e, h .record-whole refl .1, rest-is l i) at (g []) in
+    rw a (front-read c p [] k u m f (drop i l) r n (rw (rest-is l i) at (h .next refl)) (h .wide) j q)
+either-read false w c d p p' k u m f l x i n r h t e z g =
+    let j : Records p' n = rw e at z in
+    let q = rw e at (g p') in
+    one-record _ r p' n (h .stays ∙ h .wide) j q ∙ sym (picked-first w _ _ _ (h .byte refl k u m f) t) ∙ first-byte _ l i (h .here)
+
+pub either-byte : (b w : Bool) (c d : Core) (p p' k u m f l : List ℕ) (i : ℕ) → EnteredEither b w c d p p' l i → w ≡ false → state d p' k u m f ≡ readAll (state c p k u m f) (take (i + 1 - i) (drop i l))
+either-byte true w c d p p' k u m f l i h t = absurd (subst T (sym (h .record-whole refl .0) ∙ t) tt)
+either-byte false w c d p p' k u m f l i h t = sym (picked-second w _ _ _ (h .byte refl k u m f) t) ∙ first-byte _ l i (h .here)

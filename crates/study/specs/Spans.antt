@@ -2,11 +2,11 @@
 use mathlib.Core.Path.{_≡_}
 use mathlib.Core.Logic.{_⊎_}
 use mathlib.Core.List.{List}
-use Prim.Native.Nat.{ℕ, _+_, _<_, _≤_}
-use lib.ListN.{length, getD}
+use Prim.Native.Nat.{ℕ, _+_, _-_, _<_, _≤_}
+use lib.ListN.{length, getD, take, drop}
 use Rattle.state.specs.declared.Reading.{Reading}
-use Rattle.model.specs.Verdict.{bodyLength}
-use Rattle.model.specs.Machine.{most64}
+use Rattle.model.specs.Verdict.{bodyLength, decode}
+use Rattle.model.specs.Machine.{State, most64, recordRead, cleared, readAll}
 
 -- the reading stands between two records, and a place past the next one is counted
 pub record Between (h : Reading) : Type 0 where
@@ -14,19 +14,22 @@ pub record Between (h : Reading) : Type 0 where
   pub none : h .have ≡ 0
   pub room : h .place + 13 ≤ most64
 
--- the bytes begin with a kind byte and have n bytes of a record of this kind: all of them
-pub record Whole (l : List ℕ) (n : ℕ) : Type 0 where
-  pub known : 0 < bodyLength (getD l 0 0)
-  pub size : n ≡ bodyLength (getD l 0 0) + 1
+-- the length of the record that some bytes begin with, kind byte included
+abbrev pub lengthOf : List ℕ → ℕ
+lengthOf l = bodyLength (getD l 0 0) + 1
 
--- the next n bytes are read at once: one byte, or a whole record between two records
-pub record Span (h : Reading) (l : List ℕ) (n : ℕ) : Type 0 where
-  pub some : 1 ≤ n
-  pub there : n ≤ length l
-  pub whole : (n ≡ 1) ⊎ (Between h × Whole l n)
-
--- the bytes begin with a whole effect
-pub record EffectHere (h : Reading) (l : List ℕ) : Type 0 where
+-- between two records the bytes begin with a record of a known kind, and there are at least sixteen of them, more than any record has
+pub record Next (h : Reading) (l : List ℕ) : Type 0 where
   pub between : Between h
-  pub there : 9 ≤ length l
-  pub kind : getD l 0 0 ≡ 6
+  pub known : 0 < bodyLength (getD l 0 0)
+  pub room : 16 ≤ length l
+
+-- the study after the first n bytes, where the record that they begin with has been entered and is still to be read
+abbrev pub afterFirst : State → List ℕ → ℕ → State
+afterFirst s l n = readAll (cleared (recordRead s (decode l))) (take (n - lengthOf l) (drop (lengthOf l) l))
+
+-- the first n bytes are whole records, and more than the first only where sixteen bytes follow it
+pub record Records (l : List ℕ) (n : ℕ) : Type 0 where
+  pub first : lengthOf l ≤ n
+  pub there : n ≤ length l
+  pub more : (n ≡ lengthOf l) ⊎ (lengthOf l + 16 ≤ length l)

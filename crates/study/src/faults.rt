@@ -1,41 +1,13 @@
-// The fault of the record in the pending bytes (document 01, "Numbers the desk says no with"); 0 is none.
+// The fault of a record by its bytes (document 01, "Numbers the desk says no with"); 0 is none.
 ghost use mathlib.Core.Path.{_≡_};
-ghost use mathlib.Core.List.{List};
-ghost use Prim.Native.Nat.{ℕ};
-ghost use lib.ListN.{getD};
 ghost use Rattle.numeric.specs.Choice.{ifEq};
-ghost use Rattle.model.specs.Faults.{role, orderFault, targetFault, leakFault, branchingFault, outcomeFault, namingFault, effectFault, closingFault};
-ghost use Rattle.model.specs.Verdict.{decode, field, factsAt};
-ghost use Rattle.model.specs.Machine.{top, aboveOf, ownFaultIn, faultIn};
+ghost use Rattle.model.specs.Faults.{orderFault, targetFault, leakFault, branchingFault, outcomeFault, namingFault, effectFault, closingFault};
+ghost use Rattle.model.specs.Verdict.{field, factsAt};
+ghost use Rattle.model.specs.Machine.{top, aboveOf};
+ghost use Rattle.study.specs.Placing.{placeFault};
 use crate::Study;
 use state::Core;
 use terms::Target;
-
-// The place of the record in the order, by the number of its kind.
-fn role_of(p: &[u8; 16]) -> u8
-    ensures { λ r. ⌜ r ≡ role (decode (now (p .entry))) ⌝ }
-{
-    let kind = p[0];
-    if kind == 6 {
-        return 6;
-    }
-    if kind == 5 {
-        return 5;
-    }
-    if kind == 4 {
-        return 4;
-    }
-    if kind == 3 {
-        return 3;
-    }
-    if kind == 2 {
-        return 2;
-    }
-    if kind == 1 {
-        return 1;
-    }
-    7
-}
 
 fn only(k: u8, allowed: u8) -> u8
     ensures { λ r. ⌜ r ≡ ifEq k allowed 0 2 ⌝ }
@@ -69,6 +41,21 @@ fn order_fault(records: u32, left: u16, trees: u8, scenarios: u32, k: u8) -> u8
         return 0;
     }
     only(k, 7)
+}
+
+// 5: one record too many, after 2.
+pub(crate) fn place_fault(c: Core, role: u8) -> u8
+    ensures { λ r. ⌜ r ≡ placeFault c role ⌝ }
+{
+    let k = c.counts;
+    let b = c.branch;
+    if order_fault(k.records, b.left, b.height, k.scenarios, role) == 0 {
+        if Study::MOST_RECORDS <= k.records {
+            return 5;
+        }
+        return 0;
+    }
+    2
 }
 
 fn only_first(scenarios: u32) -> u8
@@ -212,7 +199,7 @@ fn closing_fault(records: u32, leaks: u64, count: u32, sum: u64) -> u8
 }
 
 // The faults of each kind of record but for its place.
-fn own_effect(c: Core, p: &[u8; 16]) -> u8
+pub(crate) fn own_effect(c: Core, p: &[u8]) -> u8
     ensures { λ r. ⌜ r ≡ effectFault (c .counts .targets) (c .branch .kind) (c .branch .next) (field (now (p .entry)) 1 2) (field (now (p .entry)) 3 4) (field (now (p .entry)) 7 2) ⌝ }
 {
     let t = decoding::half_at_1(p);
@@ -223,13 +210,13 @@ fn own_effect(c: Core, p: &[u8; 16]) -> u8
     effect_fault(k.targets, b.kind, b.next, t, intensity, duration)
 }
 
-fn own_outcome(p: &[u8; 16]) -> u8
+pub(crate) fn own_outcome(p: &[u8]) -> u8
     ensures { λ r. ⌜ r ≡ outcomeFault (field (now (p .entry)) 1 1) (field (now (p .entry)) 2 2) ⌝ }
 {
     outcome_fault(decoding::byte_at_1(p), decoding::half_at_2(p))
 }
 
-fn own_branching(c: Core, p: &[u8; 16], stack: &[u64; 9]) -> u8
+pub(crate) fn own_branching(c: Core, p: &[u8], stack: &[u64; 9]) -> u8
     ensures { λ r. ⌜ r ≡ branchingFault (aboveOf (top (now (stack .entry)) (c .branch .height))) (field (now (p .entry)) 1 4) ⌝ }
 {
     let chance = decoding::word_at_1(p);
@@ -238,7 +225,7 @@ fn own_branching(c: Core, p: &[u8; 16], stack: &[u64; 9]) -> u8
     branching_fault((tree % 16) as u8, chance)
 }
 
-fn own_leak(c: Core, p: &[u8; 16]) -> u8
+pub(crate) fn own_leak(c: Core, p: &[u8]) -> u8
     ensures { λ r. ⌜ r ≡ leakFault (c .counts .scenarios) (c .counts .last) (field (now (p .entry)) 1 4) (field (now (p .entry)) 5 8) ⌝ }
 {
     let number = decoding::word_at_1(p);
@@ -247,7 +234,7 @@ fn own_leak(c: Core, p: &[u8; 16]) -> u8
     leak_fault(k.scenarios, k.last, number, frequency)
 }
 
-fn own_target(c: Core, p: &[u8; 16]) -> u8
+pub(crate) fn own_target(c: Core, p: &[u8]) -> u8
     ensures { λ r. ⌜ r ≡ targetFault (c .counts .targets) (field (now (p .entry)) 1 2) (factsAt (now (p .entry))) ⌝ }
 {
     let number = decoding::half_at_1(p);
@@ -256,67 +243,11 @@ fn own_target(c: Core, p: &[u8; 16]) -> u8
     target_fault(k.targets, number, f)
 }
 
-fn own_closing(c: Core, p: &[u8; 16]) -> u8
+pub(crate) fn own_closing(c: Core, p: &[u8]) -> u8
     ensures { λ r. ⌜ r ≡ closingFault (c .counts .records) (c .counts .leaks) (field (now (p .entry)) 1 4) (field (now (p .entry)) 5 8) ⌝ }
 {
     let count = decoding::word_at_1(p);
     let sum = decoding::long_at_5(p);
     let k = c.counts;
     closing_fault(k.records, k.leaks, count, sum)
-}
-
-fn own_fault(c: Core, p: &[u8; 16], stack: &[u64; 9]) -> u8
-    ensures { λ r. ⌜ r ≡ ownFaultIn c (now (stack .entry)) (decode (now (p .entry))) ⌝ }
-{
-    let kind = p[0];
-    if kind == 6 {
-        return own_effect(c, p);
-    }
-    if kind == 5 {
-        return own_outcome(p);
-    }
-    if kind == 4 {
-        return own_branching(c, p, stack);
-    }
-    if kind == 3 {
-        return own_leak(c, p);
-    }
-    if kind == 2 {
-        return own_target(c, p);
-    }
-    if kind == 1 {
-        return 0;
-    }
-    own_closing(c, p)
-}
-
-// In the order 2, 5, 3, 4, 6.
-pub(crate) fn fault(c: Core, p: &[u8; 16], stack: &[u64; 9]) -> u8
-    ensures { λ r. ⌜ r ≡ faultIn c (now (stack .entry)) (decode (now (p .entry))) ⌝ }
-{
-    let k = c.counts;
-    let b = c.branch;
-    if order_fault(k.records, b.left, b.height, k.scenarios, role_of(p)) == 0 {
-        if Study::MOST_RECORDS <= k.records {
-            return 5;
-        }
-        return own_fault(c, p, stack);
-    }
-    2
-}
-
-// The same for an effect alone.
-pub(crate) fn effect_record_fault(c: Core, p: &[u8; 16]) -> u8
-    requires { ⌜ getD (now p) 0 0 ≡ 6 ⌝ }
-    ensures { λ r. ⌜ ((k : List ℕ) → r ≡ faultIn c k (decode (now (p .entry)))) ⌝ }
-{
-    let k = c.counts;
-    let b = c.branch;
-    if order_fault(k.records, b.left, b.height, k.scenarios, 6) == 0 {
-        if Study::MOST_RECORDS <= k.records {
-            return 5;
-        }
-        return own_effect(c, p);
-    }
-    2
 }

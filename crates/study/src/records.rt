@@ -1,90 +1,159 @@
-// A record, and a byte.
+// A record that has been entered is read: taken, or refused at its first byte.
 ghost use mathlib.Core.Path.{_≡_};
 ghost use mathlib.Core.List.{List};
-ghost use Prim.Native.Nat.{ℕ, _-_};
-ghost use Rattle.numeric.specs.Choice.{pick};
-ghost use Rattle.model.specs.Verdict.{decode};
-ghost use Rattle.model.specs.Machine.{state, store, recordRead, body, step};
-use crate::faults::fault;
+ghost use Prim.Native.Nat.{ℕ};
+ghost use lib.ListN.{getD};
+ghost use Rattle.log2.specs.Logarithm.{Thresholds};
+ghost use Rattle.probit.specs.Table.{RowsReached};
+ghost use Rattle.model.specs.Content.{given, described, inSeconds};
+ghost use Rattle.model.specs.Format.{openingRec, targetRec, leakRec, branchingRec, outcomeRec, effectRec, closingRec};
+ghost use Rattle.model.specs.Verdict.{decode, field, factsAt};
+ghost use Rattle.model.specs.Machine.{state, core, refusedWith, recordRead};
+use crate::faults::own_branching;
+use crate::faults::own_closing;
+use crate::faults::own_effect;
+use crate::faults::own_leak;
+use crate::faults::own_outcome;
+use crate::faults::own_target;
+use crate::faults::place_fault;
 use state::Core;
 
-// The record in the pending bytes is taken, or refused at its first byte.
-pub(crate) fn record_read(
+// A record is refused at its first byte.
+fn refused(c: Core, n: u8) -> Core
+    ensures { λ r. ⌜ r ≡ core (refusedWith (c .reading) n) (c .counts) (c .branch) (c .tally) ⌝ }
+{
+    reading::core_reading(c, reading::refuse(c.reading, n))
+}
+
+fn read_opening(c: Core, p: &[u8]) -> Core
+    requires { ⌜ decode (now p) ≡ openingRec (field (now p) 1 4) ⌝ }
+    ensures { λ r. ⌜ ((q k s m f : List ℕ) → state r q k s m f ≡ recordRead (state c q k s m f) (decode (now (p .entry)))) ⌝ }
+{
+    let misplaced = place_fault(c, 1);
+    if misplaced != 0 {
+        return refused(c, misplaced);
+    }
+    counting::core_opening(c, decoding::word_at_1(p))
+}
+
+fn read_target(c: Core, p: &[u8], facts: &mut [u64; 256]) -> Core
+    requires { ⌜ decode (now p) ≡ targetRec (field (now p) 1 2) (described (factsAt (now p))) ⌝ }
+    ensures { λ r. ⌜ ((q k s m : List ℕ) → state r q k s m (now (facts .exit)) ≡ recordRead (state c q k s m (now (facts .entry))) (decode (now (p .entry)))) ⌝ }
+{
+    let misplaced = place_fault(c, 2);
+    if misplaced != 0 {
+        return refused(c, misplaced);
+    }
+    let own = own_target(c, p);
+    if own != 0 {
+        return refused(c, own);
+    }
+    targets::take_target(c, p, facts)
+}
+
+fn read_leak(c: Core, p: &[u8], stack: &mut [u64; 9]) -> Core
+    requires { ⌜ decode (now p) ≡ leakRec (field (now p) 1 4) (field (now p) 5 8) ⌝ }
+    ensures { λ r. ⌜ ((q s m f : List ℕ) → state r q (now (stack .exit)) s m f ≡ recordRead (state c q (now (stack .entry)) s m f) (decode (now (p .entry)))) ⌝ }
+{
+    let misplaced = place_fault(c, 3);
+    if misplaced != 0 {
+        return refused(c, misplaced);
+    }
+    let own = own_leak(c, p);
+    if own != 0 {
+        return refused(c, own);
+    }
+    trees::take_leak(c, p, stack)
+}
+
+fn read_branching(c: Core, p: &[u8], stack: &mut [u64; 9]) -> Core
+    requires { ⌜ decode (now p) ≡ branchingRec (given (field (now p) 1 4)) ⌝ }
+    ensures { λ r. ⌜ ((q s m f : List ℕ) → state r q (now (stack .exit)) s m f ≡ recordRead (state c q (now (stack .entry)) s m f) (decode (now (p .entry)))) ⌝ }
+{
+    let misplaced = place_fault(c, 4);
+    if misplaced != 0 {
+        return refused(c, misplaced);
+    }
+    let own = own_branching(c, p, stack);
+    if own != 0 {
+        return refused(c, own);
+    }
+    trees::take_branching(c, p, stack)
+}
+
+fn read_outcome(c: Core, p: &[u8], stack: &[u64; 9]) -> Core
+    requires { ⌜ decode (now p) ≡ outcomeRec (field (now p) 1 1) (field (now p) 2 2) ⌝ }
+    ensures { λ r. ⌜ ((q s m f : List ℕ) → state r q (now (stack .entry)) s m f ≡ recordRead (state c q (now (stack .entry)) s m f) (decode (now (p .entry)))) ⌝ }
+{
+    let misplaced = place_fault(c, 5);
+    if misplaced != 0 {
+        return refused(c, misplaced);
+    }
+    let own = own_outcome(p);
+    if own != 0 {
+        return refused(c, own);
+    }
+    trees::take_outcome(c, p, stack)
+}
+
+fn read_closing(c: Core, p: &[u8]) -> Core
+    requires { ⌜ decode (now p) ≡ closingRec (field (now p) 1 4) (field (now p) 5 8) ⌝ }
+    ensures { λ r. ⌜ ((q k s m f : List ℕ) → state r q k s m f ≡ recordRead (state c q k s m f) (decode (now (p .entry)))) ⌝ }
+{
+    let misplaced = place_fault(c, 7);
+    if misplaced != 0 {
+        return refused(c, misplaced);
+    }
+    let own = own_closing(c, p);
+    if own != 0 {
+        return refused(c, own);
+    }
+    counting::core_closing(c)
+}
+
+// A record of any kind but an effect.
+pub(crate) fn read_other(c: Core, p: &[u8], stack: &mut [u64; 9], facts: &mut [u64; 256]) -> Core
+    requires { ⌜ (getD (now p) 0 0 ≡ 6 → ⊥) ⌝ }
+    ensures { λ r. ⌜ ((q s m : List ℕ) → state r q (now (stack .exit)) s m (now (facts .exit)) ≡ recordRead (state c q (now (stack .entry)) s m (now (facts .entry))) (decode (now (p .entry)))) ⌝ }
+{
+    let kind = decoding::kind(p);
+    if kind == 5 {
+        return read_outcome(c, p, stack);
+    }
+    if kind == 4 {
+        return read_branching(c, p, stack);
+    }
+    if kind == 3 {
+        return read_leak(c, p, stack);
+    }
+    if kind == 2 {
+        return read_target(c, p, facts);
+    }
+    if kind == 1 {
+        return read_opening(c, p);
+    }
+    read_closing(c, p)
+}
+
+pub(crate) fn read_effect(
+    table: &[u32; 256],
+    rows: &[u8; 544],
     c: Core,
-    p: &[u8; 16],
-    stack: &mut [u64; 9],
+    p: &[u8],
     sums: &mut [u64; 256],
     margins: &mut [u32; 256],
     facts: &mut [u64; 256],
 ) -> Core
-    ensures { λ r. ⌜ state r (now (p .entry)) (now (stack .exit)) (now (sums .exit)) (now (margins .exit)) (now (facts .exit)) ≡ recordRead (state c (now (p .entry)) (now (stack .entry)) (now (sums .entry)) (now (margins .entry)) (now (facts .entry))) (decode (now (p .entry))) ⌝ }
+    requires { ⌜ Thresholds (now table) × RowsReached (now rows) × (decode (now p) ≡ effectRec (inSeconds (field (now p) 1 2) (field (now p) 3 4) (field (now p) 7 2))) ⌝ }
+    ensures { λ r. ⌜ ((q k : List ℕ) → state r q k (now (sums .exit)) (now (margins .exit)) (now (facts .exit)) ≡ recordRead (state c q k (now (sums .entry)) (now (margins .entry)) (now (facts .entry))) (decode (now (p .entry)))) ⌝ }
 {
-    let n = fault(c, p, stack);
-    if n == 0 {
-        return taking::accept(c, p, stack, sums, margins, facts);
+    let misplaced = place_fault(c, 6);
+    if misplaced != 0 {
+        return refused(c, misplaced);
     }
-    reading::core_reading(c, reading::refuse(c.reading, n))
-}
-
-fn one_less(x: u8) -> u8
-    ensures { λ r. ⌜ r ≡ x - 1 ⌝ }
-{
-    if x == 0 { 0 } else { x - 1 }
-}
-
-fn put_pending(p: &mut [u8; 16], at: u8, b: u8)
-    ensures { λ _. ⌜ now (p .exit) ≡ store 16 (now (p .entry)) at b ⌝ }
-{
-    let i = at as usize;
-    if i < 16 {
-        p[i] = b;
+    let own = own_effect(c, p);
+    if own != 0 {
+        return refused(c, own);
     }
-}
-
-// The parts that go by value after some bytes, and whether they made the record in the pending bytes whole: then it is still to be read.
-pub(crate) struct Entered {
-    pub(crate) core: Core,
-    pub(crate) whole: bool,
-}
-
-// One byte more of a record that has begun.
-fn enter_more(c: Core, b: u8, p: &mut [u8; 16]) -> Entered
-    ensures { λ r. ⌜ ((k s m f : List ℕ) → body (state c (now (p .entry)) k s m f) b ≡ pick (r .whole) (recordRead (state (r .core) (now (p .exit)) k s m f) (decode (now (p .exit)))) (state (r .core) (now (p .exit)) k s m f)) ⌝ }
-{
-    let h = c.reading;
-    put_pending(p, h.have, b);
-    let g = reading::grow(h);
-    let grown = reading::core_reading(c, g);
-    if decoding::body_length(p[0]) <= one_less(g.have) {
-        return Entered {
-            core: grown,
-            whole: true,
-        };
-    }
-    Entered {
-        core: grown,
-        whole: false,
-    }
-}
-
-// One byte more.
-pub(crate) fn enter_byte(c: Core, b: u8, p: &mut [u8; 16]) -> Entered
-    ensures { λ r. ⌜ ((k s m f : List ℕ) → step (state c (now (p .entry)) k s m f) b ≡ pick (r .whole) (recordRead (state (r .core) (now (p .exit)) k s m f) (decode (now (p .exit)))) (state (r .core) (now (p .exit)) k s m f)) ⌝ }
-{
-    let h = c.reading;
-    if h.phase == 0 {
-        if h.have == 0 {
-            put_pending(p, 0, b);
-            let begun = reading::core_reading(c, reading::begin(h, b));
-            return Entered {
-                core: begun,
-                whole: false,
-            };
-        }
-        return enter_more(c, b, p);
-    }
-    Entered {
-        core: c,
-        whole: false,
-    }
+    targets::take_effect(table, rows, c, p, sums, margins, facts)
 }

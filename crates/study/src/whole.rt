@@ -1,22 +1,23 @@
-// Records that a piece has from the first byte to the last: each is read at once.
+// Records that a piece has from the first byte to the last are read where they stand, one after the other.
 ghost use mathlib.Core.Path.{_≡_};
-ghost use mathlib.Core.Bool.{true};
-ghost use mathlib.Core.Logic.{_⊎_};
-ghost use mathlib.Core.List.{List, _++_};
+ghost use mathlib.Core.Bool.{true, false};
+ghost use mathlib.Core.List.{List};
 ghost use Prim.Native.Nat.{ℕ, _+_, _-_, _<_, _≤_};
-ghost use lib.ListN.{length, getD, take, drop};
+ghost use lib.ListN.{length, getD, take, drop, replicate};
+ghost use Rattle.log2.specs.Logarithm.{Thresholds};
+ghost use Rattle.probit.specs.Table.{RowsReached};
 ghost use Rattle.numeric.specs.Choice.{pick};
-ghost use Rattle.model.specs.Verdict.{decode};
-ghost use Rattle.model.specs.Machine.{core, reading, state, recordRead, readAll};
-ghost use Rattle.study.specs.Spans.{Between, Whole, Span, EffectHere};
-use crate::faults::effect_record_fault;
-use crate::records::Entered;
-use crate::records::enter_byte;
-use crate::records::record_read;
+ghost use Rattle.model.specs.Verdict.{bodyLength, decode};
+ghost use Rattle.model.specs.Machine.{core, reading, state, recordRead, cleared, step, readAll};
+ghost use Rattle.study.specs.Spans.{Between, Next, lengthOf, afterFirst, Records};
+use crate::entering::Entered;
+use crate::entering::enter_byte;
+use crate::records::read_effect;
+use crate::records::read_other;
 use state::Core;
 use state::Reading;
 
-// The study after some bytes of a piece, and the place in the piece.
+// The study after some bytes, and how many they were.
 pub(crate) struct Run {
     pub(crate) core: Core,
     pub(crate) at: usize,
@@ -36,104 +37,26 @@ fn between(h: Reading) -> bool
     false
 }
 
-// How many of the bytes are read at once: those of the record that begins here and is whole, else one.
-fn span(h: Reading, bytes: &[u8]) -> usize
-    requires { ⌜ 0 < length (now bytes) ⌝ }
-    ensures { λ r. ⌜ Span h (now (bytes .entry)) r ⌝ }
+// Whether a whole record of a known kind begins here, with room for any.
+fn next_here(h: Reading, bytes: &[u8]) -> bool
+    ensures { λ r. ⌜ (r ≡ true → Next h (now (bytes .entry))) ⌝ }
 {
     if between(h) {
-        let n = decoding::body_length(bytes[0]) as usize;
-        if 0 < n {
-            if n < bytes.len() {
-                return n + 1;
+        if 16 <= bytes.len() {
+            if 0 < decoding::body_length(bytes[0]) {
+                return true;
             }
         }
     }
-    1
+    false
 }
 
-// Puts bytes at the front of the pending ones.
-fn fill(p: &mut [u8; 16], bytes: &[u8])
-    requires { ⌜ (length (now bytes) ≤ 16) × (length (now p) ≡ 16) ⌝ }
-    ensures { λ _. ⌜ now (p .exit) ≡ now (bytes .entry) ++ drop (length (now (bytes .entry))) (now (p .entry)) ⌝ }
-{
-    let mut i = 0;
-    while i < bytes.len() {
-        p[i] = bytes[i];
-        i += 1;
-    }
-}
-
-// A record of n bytes has all of them.
-fn begun_whole(c: Core, n: usize) -> Core
-    requires { ⌜ Between (c .reading) × (n ≤ 13) ⌝ }
-    ensures { λ r. ⌜ r ≡ core (reading 0 n (c .reading .place + n) (c .reading .place) 0 0) (c .counts) (c .branch) (c .tally) ⌝ }
-{
-    let h = c.reading;
-    let begun = Reading {
-        phase: 0,
-        have: n as u8,
-        place: h.place + (n as u64),
-        start: h.place,
-        number: 0,
-        at: 0,
-    };
-    reading::core_reading(c, begun)
-}
-
-// A whole record's bytes.
-fn enter_record(c: Core, bytes: &[u8], p: &mut [u8; 16]) -> Entered
-    requires { ⌜ (length (now p) ≡ 16) × Between (c .reading) × Whole (now bytes) (length (now bytes)) ⌝ }
-    ensures { λ r. ⌜ ((k s m f : List ℕ) → readAll (state c (now (p .entry)) k s m f) (now (bytes .entry)) ≡ pick (r .whole) (recordRead (state (r .core) (now (p .exit)) k s m f) (decode (now (p .exit)))) (state (r .core) (now (p .exit)) k s m f)) ⌝ }
-{
-    fill(p, bytes);
-    let begun = begun_whole(c, bytes.len());
-    Entered {
-        core: begun,
-        whole: true,
-    }
-}
-
-// One byte, or a whole record's bytes.
-fn enter(c: Core, bytes: &[u8], p: &mut [u8; 16]) -> Entered
-    requires { ⌜ length (now p) ≡ 16 ⌝ }
-    requires { ⌜ (length (now bytes) ≡ 1) ⊎ (Between (c .reading) × Whole (now bytes) (length (now bytes))) ⌝ }
-    ensures { λ r. ⌜ ((k s m f : List ℕ) → readAll (state c (now (p .entry)) k s m f) (now (bytes .entry)) ≡ pick (r .whole) (recordRead (state (r .core) (now (p .exit)) k s m f) (decode (now (p .exit)))) (state (r .core) (now (p .exit)) k s m f)) ⌝ }
-{
-    if bytes.len() == 1 {
-        return enter_byte(c, bytes[0], p);
-    }
-    enter_record(c, bytes, p)
-}
-
-// Reads one byte or one whole record.
-fn read_span(
-    c: Core,
-    bytes: &[u8],
-    p: &mut [u8; 16],
-    stack: &mut [u64; 9],
-    sums: &mut [u64; 256],
-    margins: &mut [u32; 256],
-    facts: &mut [u64; 256],
-) -> Core
-    requires { ⌜ length (now p) ≡ 16 ⌝ }
-    requires { ⌜ (length (now bytes) ≡ 1) ⊎ (Between (c .reading) × Whole (now bytes) (length (now bytes))) ⌝ }
-    ensures { λ r. ⌜ state r (now (p .exit)) (now (stack .exit)) (now (sums .exit)) (now (margins .exit)) (now (facts .exit)) ≡ readAll (state c (now (p .entry)) (now (stack .entry)) (now (sums .entry)) (now (margins .entry)) (now (facts .entry))) (now (bytes .entry)) ⌝ }
-{
-    let e = enter(c, bytes, p);
-    let d = e.core;
-    if e.whole {
-        return record_read(d, p, stack, sums, margins, facts);
-    }
-    d
-}
-
-// Whether the bytes begin with a whole effect.
+// The same for an effect.
 fn effect_here(h: Reading, bytes: &[u8]) -> bool
-    ensures { λ r. ⌜ (r ≡ true → EffectHere h (now (bytes .entry))) ⌝ }
+    ensures { λ r. ⌜ (r ≡ true → Next h (now (bytes .entry)) × (getD (now (bytes .entry)) 0 0 ≡ 6)) ⌝ }
 {
     if between(h) {
-        if 9 <= bytes.len() {
+        if 16 <= bytes.len() {
             if bytes[0] == 6 {
                 return true;
             }
@@ -142,56 +65,157 @@ fn effect_here(h: Reading, bytes: &[u8]) -> bool
     false
 }
 
-// Reads a whole effect. It does what `record_read` does, by parts that a loop over effects keeps at hand.
-fn read_effect(
-    c: Core,
-    bytes: &[u8],
-    p: &mut [u8; 16],
-    sums: &mut [u64; 256],
-    margins: &mut [u32; 256],
-    facts: &mut [u64; 256],
-) -> Core
-    requires { ⌜ (length (now p) ≡ 16) × Between (c .reading) × (length (now bytes) ≡ 9) × (getD (now bytes) 0 0 ≡ 6) ⌝ }
-    ensures { λ r. ⌜ ((k : List ℕ) → state r (now (p .exit)) k (now (sums .exit)) (now (margins .exit)) (now (facts .exit)) ≡ readAll (state c (now (p .entry)) k (now (sums .entry)) (now (margins .entry)) (now (facts .entry))) (now (bytes .entry))) ⌝ }
+// The record that begins here is entered whole.
+fn entered(c: Core, bytes: &[u8]) -> Core
+    requires { ⌜ Between (c .reading) ⌝ }
+    ensures { λ r. ⌜ r ≡ core (reading 0 (lengthOf (now (bytes .entry))) (c .reading .place + lengthOf (now (bytes .entry))) (c .reading .place) 0 0) (c .counts) (c .branch) (c .tally) ⌝ }
 {
-    fill(p, bytes);
-    let d = begun_whole(c, 9);
-    let n = effect_record_fault(d, p);
-    if n == 0 {
-        let b = d.branch;
-        let t = decoding::half_at_1(p);
-        let j = targets::judged_of(b.kind, p, facts);
-        targets::add_to_row(b, t, j.chance, sums, margins, facts);
-        return counting::core_effect(d, t, j.judged);
-    }
-    reading::core_reading(d, reading::refuse(d.reading, n))
+    let h = c.reading;
+    let n = decoding::body_length(decoding::kind(bytes)) + 1;
+    let begun = Reading {
+        place: h.place + (n as u64),
+        start: h.place,
+        at: 0,
+        phase: 0,
+        have: n,
+        number: 0,
+    };
+    reading::core_reading(c, begun)
 }
 
-// Reads the whole effects from a place on.
+// The effect that the bytes begin with, which has been entered, and the effects that follow it.
 fn read_effects(
+    table: &[u32; 256],
+    rows: &[u8; 544],
     c: Core,
     bytes: &[u8],
-    from: usize,
-    p: &mut [u8; 16],
     sums: &mut [u64; 256],
     margins: &mut [u32; 256],
     facts: &mut [u64; 256],
 ) -> Run
-    requires { ⌜ (from ≤ length (now bytes)) × (length (now p) ≡ 16) ⌝ }
-    ensures { λ r. ⌜ (from ≤ r .at) × (r .at ≤ length (now (bytes .entry))) ⌝ }
-    ensures { λ r. ⌜ ((k : List ℕ) → state (r .core) (now (p .exit)) k (now (sums .exit)) (now (margins .exit)) (now (facts .exit)) ≡ readAll (state c (now (p .entry)) k (now (sums .entry)) (now (margins .entry)) (now (facts .entry))) (take (r .at - from) (drop from (now (bytes .entry))))) ⌝ }
+    requires { ⌜ Thresholds (now table) × RowsReached (now rows) × (16 ≤ length (now bytes)) × (getD (now bytes) 0 0 ≡ 6) ⌝ }
+    ensures { λ r. ⌜ Records (now (bytes .entry)) (r .at) ⌝ }
+    ensures { λ r. ⌜ ((q k : List ℕ) → state (r .core) (replicate 16 0) k (now (sums .exit)) (now (margins .exit)) (now (facts .exit)) ≡ afterFirst (state c q k (now (sums .entry)) (now (margins .entry)) (now (facts .entry))) (now (bytes .entry)) (r .at)) ⌝ }
 {
     let mut core = c;
-    let mut at = from;
-    while effect_here(core.reading, &bytes[at..]) {
-        let next = at + 9;
-        core = read_effect(core, &bytes[at..next], p, sums, margins, facts);
-        at = next;
+    let mut at: usize = 0;
+    while 16 <= bytes.len() - at {
+        let after = read_effect(table, rows, core, &bytes[at..], sums, margins, facts);
+        at += 9;
+        if effect_here(after.reading, &bytes[at..]) {
+            core = entered(after, &bytes[at..]);
+        } else {
+            return Run {
+                core: after,
+                at: at,
+            };
+        }
     }
     Run { core: core, at: at }
 }
 
-// Reads at least one byte: the whole effects from a place on, and then a byte or a record.
+// The record that the bytes begin with, which has been entered; after an effect also the effects that follow it.
+fn read_some(
+    table: &[u32; 256],
+    rows: &[u8; 544],
+    c: Core,
+    bytes: &[u8],
+    stack: &mut [u64; 9],
+    sums: &mut [u64; 256],
+    margins: &mut [u32; 256],
+    facts: &mut [u64; 256],
+) -> Run
+    requires { ⌜ Thresholds (now table) × RowsReached (now rows) × (16 ≤ length (now bytes)) ⌝ }
+    ensures { λ r. ⌜ Records (now (bytes .entry)) (r .at) ⌝ }
+    ensures { λ r. ⌜ ((q : List ℕ) → state (r .core) (replicate 16 0) (now (stack .exit)) (now (sums .exit)) (now (margins .exit)) (now (facts .exit)) ≡ afterFirst (state c q (now (stack .entry)) (now (sums .entry)) (now (margins .entry)) (now (facts .entry))) (now (bytes .entry)) (r .at)) ⌝ }
+{
+    let kind = decoding::kind(bytes);
+    if kind == 6 {
+        return read_effects(table, rows, c, bytes, sums, margins, facts);
+    }
+    let n = decoding::body_length(kind) as usize + 1;
+    let after = read_other(c, bytes, stack, facts);
+    Run { core: after, at: n }
+}
+
+// The record that the bytes begin with, which has been entered, and the whole records that follow it.
+fn read_records(
+    table: &[u32; 256],
+    rows: &[u8; 544],
+    c: Core,
+    bytes: &[u8],
+    stack: &mut [u64; 9],
+    sums: &mut [u64; 256],
+    margins: &mut [u32; 256],
+    facts: &mut [u64; 256],
+) -> Run
+    requires { ⌜ Thresholds (now table) × RowsReached (now rows) × (16 ≤ length (now bytes)) ⌝ }
+    ensures { λ r. ⌜ Records (now (bytes .entry)) (r .at) ⌝ }
+    ensures { λ r. ⌜ ((q : List ℕ) → state (r .core) (replicate 16 0) (now (stack .exit)) (now (sums .exit)) (now (margins .exit)) (now (facts .exit)) ≡ afterFirst (state c q (now (stack .entry)) (now (sums .entry)) (now (margins .entry)) (now (facts .entry))) (now (bytes .entry)) (r .at)) ⌝ }
+{
+    let mut core = c;
+    let mut at: usize = 0;
+    while 16 <= bytes.len() - at {
+        let run = read_some(table, rows, core, &bytes[at..], stack, sums, margins, facts);
+        let after = run.core;
+        at += run.at;
+        if next_here(after.reading, &bytes[at..]) {
+            core = entered(after, &bytes[at..]);
+        } else {
+            return Run {
+                core: after,
+                at: at,
+            };
+        }
+    }
+    Run { core: core, at: at }
+}
+
+fn clear(p: &mut [u8; 16])
+    ensures { λ _. ⌜ now (p .exit) ≡ replicate 16 0 ⌝ }
+{
+    *p = [0; 16];
+}
+
+// The record that begins here is entered whole, or one byte is.
+fn enter(direct: bool, c: Core, bytes: &[u8], p: &mut [u8; 16]) -> Entered
+    requires { ⌜ (direct ≡ true → Next (c .reading) (now bytes)) × (0 < length (now bytes)) ⌝ }
+    ensures { λ r. ⌜ length (now (p .exit)) ≡ length (now (p .entry)) ⌝ }
+    ensures { λ r. ⌜ (direct ≡ true → (r .whole ≡ true) × (r .core ≡ core (reading 0 (lengthOf (now (bytes .entry))) (c .reading .place + lengthOf (now (bytes .entry))) (c .reading .place) 0 0) (c .counts) (c .branch) (c .tally))) ⌝ }
+    ensures { λ r. ⌜ (direct ≡ false → (k s m f : List ℕ) → step (state c (now (p .entry)) k s m f) (getD (now (bytes .entry)) 0 0) ≡ pick (r .whole) (cleared (recordRead (state (r .core) (now (p .exit)) k s m f) (decode (now (p .exit))))) (state (r .core) (now (p .exit)) k s m f)) ⌝ }
+{
+    if direct {
+        let begun = entered(c, bytes);
+        return Entered {
+            core: begun,
+            whole: true,
+        };
+    }
+    enter_byte(c, bytes[0], p)
+}
+
+// The bytes that a record stands in: those of the piece, or the pending ones.
+fn source<'a>(direct: bool, bytes: &'a [u8], p: &'a [u8; 16]) -> &'a [u8]
+    ensures { λ r. ⌜ now r ≡ pick direct (now (bytes .entry)) (now (p .entry)) ⌝ }
+{
+    if direct {
+        return bytes;
+    }
+    p
+}
+
+// How many bytes of the piece were read: those of the records, or one.
+fn taken_from(direct: bool, n: usize) -> usize
+    ensures { λ r. ⌜ r ≡ pick direct n 1 ⌝ }
+{
+    if direct {
+        return n;
+    }
+    1
+}
+
+// Reads at least one byte: the whole records from a place on, or one byte and the record that it makes whole. The tables are taken once for all of
+// them.
 pub(crate) fn read_on(
     c: Core,
     bytes: &[u8],
@@ -206,16 +230,22 @@ pub(crate) fn read_on(
     ensures { λ r. ⌜ (from < r .at) × (r .at ≤ length (now (bytes .entry))) ⌝ }
     ensures { λ r. ⌜ state (r .core) (now (p .exit)) (now (stack .exit)) (now (sums .exit)) (now (margins .exit)) (now (facts .exit)) ≡ readAll (state c (now (p .entry)) (now (stack .entry)) (now (sums .entry)) (now (margins .entry)) (now (facts .entry))) (take (r .at - from) (drop from (now (bytes .entry)))) ⌝ }
 {
-    let run = read_effects(c, bytes, from, p, sums, margins, facts);
-    let at = run.at;
-    let core = run.core;
-    if at < bytes.len() {
-        let next = at + span(core.reading, &bytes[at..]);
-        let after = read_span(core, &bytes[at..next], p, stack, sums, margins, facts);
+    let direct = next_here(c.reading, &bytes[from..]);
+    let e = enter(direct, c, &bytes[from..], p);
+    let d = e.core;
+    if e.whole {
+        let table = log2::thresholds();
+        let rows = probit::rows();
+        let here = source(direct, &bytes[from..], p);
+        let run = read_records(&table, &rows, d, here, stack, sums, margins, facts);
+        clear(p);
+        let after = run.core;
+        let end = from + taken_from(direct, run.at);
         return Run {
             core: after,
-            at: next,
+            at: end,
         };
     }
-    run
+    let next = from + 1;
+    Run { core: d, at: next }
 }

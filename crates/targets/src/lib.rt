@@ -1,5 +1,7 @@
 // Targets, and effects on them (the machine of the crate model).
 ghost use mathlib.Core.Path.{_≡_};
+ghost use Rattle.log2.specs.Logarithm.{Thresholds};
+ghost use Rattle.probit.specs.Table.{RowsReached};
 ghost use Rattle.model.specs.Verdict.{field, factsAt};
 ghost use Rattle.model.specs.Machine.{core, taken, oneRecord, oneTarget, store, fetch, packedFacts, effectBranch, effectTally, rowOf, rowAfter};
 ghost use Rattle.targets.specs.Judging.{judgedIn};
@@ -28,7 +30,7 @@ fn fetch64(l: &[u64; 256], t: u16) -> u64
     0
 }
 
-pub fn take_target(c: Core, p: &[u8; 16], facts: &mut [u64; 256]) -> Core
+pub fn take_target(c: Core, p: &[u8], facts: &mut [u64; 256]) -> Core
     ensures { λ r. ⌜ r ≡ core (taken (c .reading) 0) (oneTarget (c .counts)) (c .branch) (c .tally) ⌝ }
     ensures { λ r. ⌜ now (facts .exit) ≡ store 256 (now (facts .entry)) (c .counts .targets) (packedFacts (factsAt (now (p .entry)))) ⌝ }
 {
@@ -38,8 +40,8 @@ pub fn take_target(c: Core, p: &[u8; 16], facts: &mut [u64; 256]) -> Core
     counting::core_target(c)
 }
 
-// An effect of a chance on the target's row.
-pub fn add_to_row(
+// An effect of a chance on the target's row. A chance of 0 changes the margin alone.
+fn add_to_row(
     b: Branch,
     t: u16,
     chance: u32,
@@ -59,37 +61,42 @@ pub fn add_to_row(
             facts: facts[i],
         };
         let after = rows::add_effect(row, b, chance);
-        sums[i] = after.sum;
         margins[i] = after.margin;
+        if chance == 0 {
+            return;
+        }
+        sums[i] = after.sum;
         facts[i] = after.facts;
     }
 }
 
-// The judged chance of the effect in the pending bytes.
-pub fn judged_of(kind: u8, p: &[u8; 16], facts: &[u64; 256]) -> Judged
-    ensures { λ r. ⌜ r ≡ judgedIn (now (facts .entry)) kind (now (p .entry)) ⌝ }
+// The judged chance of an effect by its record.
+fn judged_of(table: &[u32; 256], rows: &[u8; 544], kind: u8, p: &[u8], facts: &[u64; 256]) -> Judged
+    ensures { λ r. ⌜ (Thresholds (now (table .entry)) → RowsReached (now (rows .entry)) → r ≡ judgedIn (now (facts .entry)) kind (now (p .entry))) ⌝ }
 {
     let t = decoding::half_at_1(p);
     let intensity = decoding::word_at_3(p);
     let duration = decoding::half_at_7(p);
-    rows::judge_effect(kind, fetch64(facts, t), intensity, duration)
+    rows::judge_effect(table, rows, kind, fetch64(facts, t), intensity, duration)
 }
 
 pub fn take_effect(
+    table: &[u32; 256],
+    rows: &[u8; 544],
     c: Core,
-    p: &[u8; 16],
+    p: &[u8],
     sums: &mut [u64; 256],
     margins: &mut [u32; 256],
     facts: &mut [u64; 256],
 ) -> Core
-    ensures { λ r. ⌜ r ≡ core (taken (c .reading) 0) (oneRecord (c .counts)) (effectBranch (c .branch) (field (now (p .entry)) 1 2)) (effectTally (c .tally) (judgedIn (now (facts .entry)) (c .branch .kind) (now (p .entry)) .judged)) ⌝ }
-    ensures { λ r. ⌜ now (sums .exit) ≡ store 256 (now (sums .entry)) (field (now (p .entry)) 1 2) (rowAfter (rowOf (now (sums .entry)) (now (margins .entry)) (now (facts .entry)) (field (now (p .entry)) 1 2)) (c .branch) (judgedIn (now (facts .entry)) (c .branch .kind) (now (p .entry)) .chance) .sum) ⌝ }
-    ensures { λ r. ⌜ now (margins .exit) ≡ store 256 (now (margins .entry)) (field (now (p .entry)) 1 2) (rowAfter (rowOf (now (sums .entry)) (now (margins .entry)) (now (facts .entry)) (field (now (p .entry)) 1 2)) (c .branch) (judgedIn (now (facts .entry)) (c .branch .kind) (now (p .entry)) .chance) .margin) ⌝ }
-    ensures { λ r. ⌜ now (facts .exit) ≡ store 256 (now (facts .entry)) (field (now (p .entry)) 1 2) (rowAfter (rowOf (now (sums .entry)) (now (margins .entry)) (now (facts .entry)) (field (now (p .entry)) 1 2)) (c .branch) (judgedIn (now (facts .entry)) (c .branch .kind) (now (p .entry)) .chance) .facts) ⌝ }
+    ensures { λ r. ⌜ (Thresholds (now (table .entry)) → RowsReached (now (rows .entry)) → r ≡ core (taken (c .reading) 0) (oneRecord (c .counts)) (effectBranch (c .branch) (field (now (p .entry)) 1 2)) (effectTally (c .tally) (judgedIn (now (facts .entry)) (c .branch .kind) (now (p .entry)) .judged))) ⌝ }
+    ensures { λ r. ⌜ (Thresholds (now (table .entry)) → RowsReached (now (rows .entry)) → now (sums .exit) ≡ store 256 (now (sums .entry)) (field (now (p .entry)) 1 2) (rowAfter (rowOf (now (sums .entry)) (now (margins .entry)) (now (facts .entry)) (field (now (p .entry)) 1 2)) (c .branch) (judgedIn (now (facts .entry)) (c .branch .kind) (now (p .entry)) .chance) .sum)) ⌝ }
+    ensures { λ r. ⌜ (Thresholds (now (table .entry)) → RowsReached (now (rows .entry)) → now (margins .exit) ≡ store 256 (now (margins .entry)) (field (now (p .entry)) 1 2) (rowAfter (rowOf (now (sums .entry)) (now (margins .entry)) (now (facts .entry)) (field (now (p .entry)) 1 2)) (c .branch) (judgedIn (now (facts .entry)) (c .branch .kind) (now (p .entry)) .chance) .margin)) ⌝ }
+    ensures { λ r. ⌜ (Thresholds (now (table .entry)) → RowsReached (now (rows .entry)) → now (facts .exit) ≡ store 256 (now (facts .entry)) (field (now (p .entry)) 1 2) (rowAfter (rowOf (now (sums .entry)) (now (margins .entry)) (now (facts .entry)) (field (now (p .entry)) 1 2)) (c .branch) (judgedIn (now (facts .entry)) (c .branch .kind) (now (p .entry)) .chance) .facts)) ⌝ }
 {
     let t = decoding::half_at_1(p);
     let b = c.branch;
-    let j = judged_of(b.kind, p, facts);
+    let j = judged_of(table, rows, b.kind, p, facts);
     add_to_row(b, t, j.chance, sums, margins, facts);
     counting::core_effect(c, t, j.judged)
 }

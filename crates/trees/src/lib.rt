@@ -59,7 +59,7 @@ pub fn next_tree(l: &[u64; 9], height: u8) -> u64
     0
 }
 
-pub fn take_leak(c: Core, p: &[u8; 16], stack: &mut [u64; 9]) -> Core
+pub fn take_leak(c: Core, p: &[u8], stack: &mut [u64; 9]) -> Core
     ensures { λ r. ⌜ r ≡ core (taken (c .reading) 0) (oneLeak (c .counts) (field (now (p .entry)) 1 4) (field (now (p .entry)) 5 8)) (leakBranch (c .branch) (field (now (p .entry)) 5 8)) (c .tally) ⌝ }
     ensures { λ r. ⌜ now (stack .exit) ≡ leakStack (now (stack .entry)) (field (now (p .entry)) 5 8) ⌝ }
 {
@@ -85,7 +85,7 @@ fn branch_stack(stack: &mut [u64; 9], height: u8, chance: u32)
     put_tree(stack, height, both.first);
 }
 
-pub fn take_branching(c: Core, p: &[u8; 16], stack: &mut [u64; 9]) -> Core
+pub fn take_branching(c: Core, p: &[u8], stack: &mut [u64; 9]) -> Core
     ensures { λ r. ⌜ r ≡ core (taken (c .reading) 0) (oneRecord (c .counts)) (branchedBranch (c .branch)) (c .tally) ⌝ }
     ensures { λ r. ⌜ now (stack .exit) ≡ branchStack (now (stack .entry)) (c .branch .height) (field (now (p .entry)) 1 4) ⌝ }
 {
@@ -95,7 +95,7 @@ pub fn take_branching(c: Core, p: &[u8; 16], stack: &mut [u64; 9]) -> Core
     counting::core_branching(c)
 }
 
-pub fn take_outcome(c: Core, p: &[u8; 16], stack: &[u64; 9]) -> Core
+pub fn take_outcome(c: Core, p: &[u8], stack: &[u64; 9]) -> Core
     ensures { λ r. ⌜ r ≡ core (taken (c .reading) 0) (oneRecord (c .counts)) (outcomeBranch (c .branch) (top (now (stack .entry)) (c .branch .height)) (field (now (p .entry)) 1 1) (field (now (p .entry)) 2 2)) (outcomeTally (c .tally) (field (now (p .entry)) 1 1) (frequencyOf (top (now (stack .entry)) (c .branch .height)))) ⌝ }
 {
     let kind = decoding::byte_at_1(p);

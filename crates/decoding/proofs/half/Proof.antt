@@ -4,17 +4,17 @@ use borrow.Author.Needs.{needs}
 use Rattle.decoding.proofs.half.Statement.{statement}
 use Rattle.decoding.proofs.half.Tie as tie
 
-element-copy-out-wide : tie.Need-element-copy-out-wide
-element-copy-out-wide c = search needs
+byte-requires : tie.Need-byte-requires
+byte-requires c κs = search needs
 
 wide-requires : tie.Need-wide-requires
 wide-requires c κs = search needs
 
-add-wide : tie.Need-add-wide
-add-wide c = search needs
+add-byte : tie.Need-add-byte
+add-byte c = search needs
 
-element-copy-out-wide-2 : tie.Need-element-copy-out-wide-2
-element-copy-out-wide-2 c = search needs
+byte-requires-2 : tie.Need-byte-requires-2
+byte-requires-2 c κs = search needs
 
 wide-requires-2 : tie.Need-wide-requires-2
 wide-requires-2 c κs = search needs
@@ -29,16 +29,16 @@ cast-result : tie.Need-cast-result
 cast-result c = search needs
 
 returns : tie.Need-returns
-returns c = cc (field-2 (c .before .before .before .before .args .p .now) (c .before .before .before .before .args .i))
+returns c = cc (field-2 (c .before .before .before .before .before .args .p .now) (c .before .before .before .before .before .args .i))
 
 pub half-spec : {M : Type 1} → statement M
 half-spec =
     tie.close
     (tie.spec
-    element-copy-out-wide
+    byte-requires
     wide-requires
-    add-wide
-    element-copy-out-wide-2
+    add-byte
+    byte-requires-2
     wide-requires-2
     mul-result
     add-result

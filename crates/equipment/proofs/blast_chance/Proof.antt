@@ -1,4 +1,8 @@
 -- `equipment::blast_chance` meets its contract. Assumes nothing.
+use mathlib.Core.Path.{ap, _∙_}
+use Prim.Native.Nat.{ℕ}
+use lib.IntN.{pos, _-ℤ_}
+use Rattle.probit.specs.Chance.{chanceOf}
 use Rattle.equipment.specs.Damage.{blastProbit}
 use borrow.Author.Needs.{needs}
 use Rattle.equipment.proofs.blast_chance.Statement.{statement}
@@ -18,7 +22,9 @@ chance-requires c κs = search needs
 
 returns : tie.Need-returns
 unfolding blastProbit
-returns c = cc
+returns c t w =
+    c .chance .ensures .0 w ∙
+    ap (λ (y : ℕ). chanceOf (pos y -ℤ pos (c .before .before .before .before .args .row .constant))) (c .before .before .scaled-log .ensures .0 t)
 
 pub blast-chance-spec : {M : Type 1} → statement M
 blast-chance-spec =

@@ -1,6 +1,8 @@
 -- `equipment::fire` meets its contract, class by class. Assumes nothing.
-use mathlib.Core.Path.{refl}
+use mathlib.Core.Path.{refl, ap}
+use mathlib.Core.Logic.{⊎-elim, inl, inr}
 use Rattle.numeric.proofs.ChoiceLaws.{eq-case, ne-case}
+use Rattle.terms.specs.Terms.{judgedAs}
 use Rattle.equipment.specs.Damage.{fireDamage}
 use borrow.Author.Needs.{needs}
 use Rattle.equipment.proofs.fire.Statement.{statement}
@@ -11,18 +13,15 @@ heat-requires c κs = search needs
 
 returns : tie.Need-returns
 unfolding fireDamage
-returns c = eq-case _ _ _ _ (search needs) (cc)
-
-heat-requires-2 : tie.Need-heat-requires-2
-heat-requires-2 c κs = search needs
+returns c t w =
+    ⊎-elim
+    (λ h. eq-case _ _ _ _ (search needs) (ap judgedAs (c .heat .ensures t w)))
+    (λ h. ne-case _ _ _ _ (search needs) (eq-case _ _ _ _ (search needs) (ap judgedAs (c .heat .ensures t w))))
+    (c .before .match .keys1)
 
 returns-2 : tie.Need-returns-2
 unfolding fireDamage
-returns-2 c = ne-case _ _ _ _ (search needs) (eq-case _ _ _ _ (search needs) (cc))
-
-returns-3 : tie.Need-returns-3
-unfolding fireDamage
-returns-3 c = ne-case _ _ _ _ (search needs) (ne-case _ _ _ _ (search needs) (refl))
+returns-2 c t w = ne-case _ _ _ _ (λ e. c .match .rest .1 (inl e)) (ne-case _ _ _ _ (λ e. c .match .rest .1 (inr e)) (refl))
 
 pub fire-spec : {M : Type 1} → statement M
-fire-spec = tie.close (tie.spec heat-requires returns heat-requires-2 returns-2 returns-3)
+fire-spec = tie.close (tie.spec heat-requires returns returns-2)

@@ -11,15 +11,15 @@ heat-chance-requires c κs = search needs
 
 returns : tie.Need-returns
 unfolding heatDamage
-returns c = lt-case _ _ _ _ (search needs) (lt-case _ _ _ _ (search needs) (cc))
+returns c t w = lt-case _ _ _ _ (search needs) (lt-case _ _ _ _ (search needs) (c .heat-chance .ensures t w))
 
 returns-2 : tie.Need-returns-2
 unfolding heatDamage
-returns-2 c = lt-case _ _ _ _ (search needs) (ge-case _ _ _ _ (search needs) (refl))
+returns-2 c t w = lt-case _ _ _ _ (search needs) (ge-case _ _ _ _ (search needs) (refl))
 
 returns-3 : tie.Need-returns-3
 unfolding heatDamage
-returns-3 c = ge-case _ _ _ _ (search needs) (refl)
+returns-3 c t w = ge-case _ _ _ _ (search needs) (refl)
 
 pub heat-spec : {M : Type 1} → statement M
 heat-spec = tie.close (tie.spec heat-chance-requires returns returns-2 returns-3)

@@ -1,6 +1,5 @@
 -- `equipment::heat_chance` meets its contract. Assumes nothing.
 use native.Mathlib.Omega.{arith}
-use Rattle.log2.proofs.Laws.{logarithm-le}
 use Rattle.equipment.specs.Damage.{heatProbit}
 use borrow.Author.Needs.{needs}
 use Rattle.equipment.proofs.heat_chance.Statement.{statement}
@@ -13,14 +12,14 @@ mul-size : tie.Need-mul-size
 mul-size c = search needs
 
 add-chance : tie.Need-add-chance
-add-chance c = omega (arith, logarithm-le (c .before .args .q))
+add-chance c = omega (arith, c .scaled-log .ensures .1)
 
 chance-requires : tie.Need-chance-requires
 chance-requires c κs = search needs
 
 returns : tie.Need-returns
 unfolding heatProbit
-returns c = cc
+returns c t w = rw (← c .before .scaled-log .ensures .0 t) (c .chance .ensures .0 w)
 
 pub heat-chance-spec : {M : Type 1} → statement M
 heat-chance-spec =

@@ -1,14 +1,13 @@
--- `equipment::scaled_log` meets its contract: a logarithm is at most 8191, so no product wraps. Assumes nothing.
+-- `equipment::scaled_log` meets its contract: with any table log256 is at most 8191, so no product wraps. Assumes nothing.
 use Prim.Native.Nat.{_*_, _^_, _≤_}
-use native.Mathlib.Nat.{mul-le-mul, le-of-lt}
+use native.Mathlib.Nat.{mul-le-mul, le-of-lt, div-le-self}
 use native.Mathlib.Omega.{arith}
-use Rattle.log2.proofs.Laws.{logarithm-le}
 use borrow.Author.Needs.{needs}
 use Rattle.equipment.proofs.scaled_log.Statement.{statement}
 use Rattle.equipment.proofs.scaled_log.Tie as tie
 
 product-le : (c : tie.After-log256) → c .before .args .factor * c .log256 .result ≤ 2 ^ 22 * 8191
-product-le c = mul-le-mul {m₂ = 8191} (le-of-lt (c .before .pre .0)) (rw (c .log256 .ensures) (logarithm-le _))
+product-le c = mul-le-mul (le-of-lt (c .before .pre .0)) (c .log256 .ensures .1)
 
 log256-requires : tie.Need-log256-requires
 log256-requires c κs = search needs
@@ -26,7 +25,7 @@ div-result : tie.Need-div-result
 div-result c = search needs
 
 returns : tie.Need-returns
-returns c = cc
+returns c = (λ t. cc (c .log256 .ensures .0 t), omega (arith, product-le c, div-le-self (c .before .args .factor * c .log256 .result * 693147) (c .before .args .divisor)))
 
 pub scaled-log-spec : {M : Type 1} → statement M
 scaled-log-spec =

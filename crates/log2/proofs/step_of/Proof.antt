@@ -1,62 +1,50 @@
--- `log2::step_of` meets its contract: the row by every sixteenth threshold, and the step within the row. Assumes nothing.
-use Prim.Native.Nat.{ℕ, _+_, _-_, _*_, _^_, _<_, _≤_}
+-- `log2::step_of` meets its contract: the near step, or the next where its threshold is reached. Assumes nothing.
+use mathlib.Core.Logic.{⊎-elim}
+use native.Mathlib.Nat.{add-zero}
 use native.Mathlib.Omega.{arith}
 use borrow.Author.Needs.{needs}
-use Rattle.log2.proofs.TableSteps.{thresholds-rise, some-reached, row-low, first-step, step-from}
+use Rattle.log2.proofs.TableSteps.{at-next, at-near}
 use Rattle.log2.proofs.step_of.Statement.{statement}
 use Rattle.log2.proofs.step_of.Tie as tie
 
-thresholds-requires : tie.Need-thresholds-requires
-thresholds-requires c κs = search needs
+cast-near-step : tie.Need-cast-near-step
+cast-near-step c = search needs
 
--- the mantissa reaches the first of the rows, and the first step of its row
-some-row : (c : tie.After-reached) → 1 ≤ c .reached .result
-some-row c =
-    some-reached 0 16 _ _ _ (c .before .before .thresholds .ensures) (omega arith) (first-step _ (c .before .before .before .pre)) (c .reached .ensures)
+near-step-requires : tie.Need-near-step-requires
+near-step-requires c κs = search needs
 
-some-step : (c : tie.After-reached2) → 1 ≤ c .reached2 .result
-some-step c =
-    let r = c .before .before in
-    let t = r .before .before .thresholds .ensures in
-    some-reached ((r .reached .result - 1) * 16) 1 _ _ _ t (omega (arith, r .reached .ensures .within, some-row r)) (row-low _ _ _ t (r .reached .ensures) (some-row r)) (c .reached2 .ensures)
+add-i : tie.Need-add-i
+add-i c = search needs
 
-reached-requires : tie.Need-reached-requires
-reached-requires c κs = (thresholds-rise _ (c .before .thresholds .ensures), omega arith)
+mul-if1 : tie.Need-mul-if1
+mul-if1 c = search needs
 
-sub-row : tie.Need-sub-row
-sub-row c = some-row c
-
-mul-row : tie.Need-mul-row
-mul-row c = omega (arith, c .reached .ensures .within)
-
-reached-requires-2 : tie.Need-reached-requires-2
-reached-requires-2 c κs = (thresholds-rise _ (c .before .before .before .thresholds .ensures), omega (arith, c .before .reached .ensures .within, some-row (c .before)))
-
-add-step : tie.Need-add-step
-add-step c = omega (arith, c .before .before .reached .ensures .within, c .reached2 .ensures .within)
-
-sub-step : tie.Need-sub-step
-sub-step c = omega (arith, some-step c)
+element-copy-out-if1 : tie.Need-element-copy-out-if1
+element-copy-out-if1 c = search needs
 
 cast-result : tie.Need-cast-result
-cast-result c = omega (arith, c .before .before .reached .ensures .within, c .reached2 .ensures .within)
+cast-result c = search needs
+
+add-result : tie.Need-add-result
+add-result c = ⊎-elim (λ w. omega arith) (λ w. omega arith) (c .before .if1 .came)
 
 returns : tie.Need-returns
 returns c =
-    let r = c .before .before in
-    step-from _ _ _ _ (r .before .before .thresholds .ensures) (r .reached .ensures) (c .reached2 .ensures) (some-row r) (some-step c)
-    (omega (arith, r .before .before .before .fits .mantissa .fits))
+    let n = c .before .before .before .near-step .ensures in
+    ⊎-elim
+    (λ w. (λ t. rw (w .1) (at-next _ _ _ _ t n (omega arith) (omega arith) (omega (arith, w .0 .taken))), omega arith))
+    (λ w. (λ t. rw (w .1, add-zero) (at-near _ _ _ _ t n (omega arith) (omega arith) (omega (arith, w .0 .left))), omega arith))
+    (c .before .if1 .came)
 
 pub step-of-spec : {M : Type 1} → statement M
 step-of-spec =
     tie.close
     (tie.spec
-    thresholds-requires
-    reached-requires
-    sub-row
-    mul-row
-    reached-requires-2
-    add-step
-    sub-step
+    cast-near-step
+    near-step-requires
+    add-i
+    mul-if1
+    element-copy-out-if1
     cast-result
+    add-result
     returns)

@@ -1,4 +1,8 @@
 -- `people::by_probit` meets its contract. Assumes nothing.
+use mathlib.Core.Path.{ap, _∙_}
+use Prim.Native.Nat.{ℕ}
+use lib.IntN.{pos, _-ℤ_}
+use Rattle.probit.specs.Chance.{chanceOf}
 use Rattle.people.specs.Death.{fireProbit}
 use borrow.Author.Needs.{needs}
 use Rattle.people.proofs.by_probit.Statement.{statement}
@@ -12,7 +16,7 @@ chance-requires c κs = search needs
 
 returns : tie.Need-returns
 unfolding fireProbit
-returns c = cc
+returns c = (λ t w. c .chance .ensures .0 w ∙ ap (λ (y : ℕ). chanceOf (pos y -ℤ pos (c .before .before .args .constant))) (c .before .dose .ensures t), search needs)
 
 pub by-probit-spec : {M : Type 1} → statement M
 by-probit-spec = tie.close (tie.spec dose-requires chance-requires returns)

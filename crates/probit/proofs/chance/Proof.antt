@@ -1,29 +1,35 @@
--- `probit::chance` meets its contract: a negative probit reaches no row, and else the rows reached say the chance. Assumes nothing.
-use mathlib.Core.Path.{sym, ap, _∙_}
+-- `probit::chance` meets its contract: the table's entry says how many rows the probit reaches, and they say the chance. Assumes nothing.
+use mathlib.Core.Path.{sym, _∙_}
+use Prim.Native.Nat.{_-_, _/_}
+use native.Mathlib.Omega.{arith}
 use borrow.Author.Needs.{needs}
-use Rattle.probit.specs.Chance.{chanceOf}
-use Rattle.probit.proofs.Laws.{difference-pos, difference-neg, chance-negative, chance-percents, chance-tenths}
+use Rattle.probit.specs.Table.{FirstRows, RowsReached}
+use Rattle.probit.proofs.Laws.{chance-difference, chance-percents, chance-tenths, rows-found}
 use Rattle.probit.proofs.chance.Statement.{statement}
 use Rattle.probit.proofs.chance.Tie as tie
 
-returns : tie.Need-returns
-returns c = sym (ap chanceOf (difference-neg _ _ (c .if1 .taken)) ∙ chance-negative _)
+-- the rows that the probit reaches
+found : (c : tie.After-wide)
+    → (let a = c .before .before .before .before .before .args in RowsReached (a .rows .now) → FirstRows ((a .plus - a .minus) / 10000) (c .wide .result))
+found c t = rows-found _ _ _ _ t (omega arith) (c .wide .ensures .0)
 
-rows-reached-requires : tie.Need-rows-reached-requires
-rows-reached-requires c κs = search needs
+above-requires : tie.Need-above-requires
+above-requires c κs = search needs
 
-cast-rows : tie.Need-cast-rows
-cast-rows c = search needs
+above-requires-2 : tie.Need-above-requires-2
+above-requires-2 c κs = search needs
+
+least-requires : tie.Need-least-requires
+least-requires c κs = search needs
+
+element-copy-out-wide : tie.Need-element-copy-out-wide
+element-copy-out-wide c = search needs
+
+wide-requires : tie.Need-wide-requires
+wide-requires c κs = search needs
 
 mul-result : tie.Need-mul-result
 mul-result c = search needs
-
-returns-2 : tie.Need-returns-2
-returns-2 c =
-    sym (ap chanceOf (difference-pos _ _ (c .before .before .if1 .left)) ∙ chance-percents _ _ (c .before .rows-reached .ensures) (c .if2 .taken))
-
-sub-result : tie.Need-sub-result
-sub-result c = search needs
 
 mul-result-2 : tie.Need-mul-result-2
 mul-result-2 c = search needs
@@ -31,20 +37,23 @@ mul-result-2 c = search needs
 add-result : tie.Need-add-result
 add-result c = search needs
 
-returns-3 : tie.Need-returns-3
-returns-3 c =
-    sym (ap chanceOf (difference-pos _ _ (c .before .before .if1 .left)) ∙ chance-tenths _ _ (c .before .rows-reached .ensures) (c .if2 .left))
+returns : tie.Need-returns
+returns c = (λ t. sym (chance-difference _ _ ∙ chance-percents _ _ (found (c .before) t) (c .if1 .taken)), omega arith)
+
+returns-2 : tie.Need-returns-2
+returns-2 c = (λ t. sym (chance-difference _ _ ∙ chance-tenths _ _ (found (c .before) t) (c .if1 .left)), omega arith)
 
 pub chance-spec : {M : Type 1} → statement M
 chance-spec =
     tie.close
     (tie.spec
-    returns
-    rows-reached-requires
-    cast-rows
+    above-requires
+    above-requires-2
+    least-requires
+    element-copy-out-wide
+    wide-requires
     mul-result
-    returns-2
-    sub-result
     mul-result-2
     add-result
-    returns-3)
+    returns
+    returns-2)

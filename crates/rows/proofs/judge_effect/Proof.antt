@@ -11,7 +11,7 @@ effect-requires : tie.Need-effect-requires
 effect-requires c κs = search needs
 
 returns : tie.Need-returns
-returns c = rw (c .effect .ensures, c .before .unpack-facts .ensures) refl
+returns c t q = rw (c .effect .ensures t q, c .before .unpack-facts .ensures) refl
 
 pub judge-effect-spec : {M : Type 1} → statement M
 judge-effect-spec = tie.close (tie.spec unpack-facts-requires effect-requires returns)

@@ -20,9 +20,9 @@ judge-effect-requires : tie.Need-judge-effect-requires
 judge-effect-requires c κs = search needs
 
 returns : tie.Need-returns
-returns c =
+returns c t q =
     rw (
-      c .judge-effect .ensures,
+      c .judge-effect .ensures t q,
       c .before .fetch64 .ensures,
       c .before .before .before .before .half-at-1 .ensures,
       c .before .before .before .word-at-3 .ensures,

@@ -20,7 +20,7 @@ returns c =
     let t = c .before .before .before .before .before .before .before .before .half-at-1 .ensures in
     let j = c .before .before .before .before .before .judged-of .ensures in
     let a = c .before .add-to-row .ensures in
-    (rw (← j, ← t) (c .core-effect .ensures), (rw (← j, ← t) (a .0), (rw (← j, ← t) (a .1 .0), rw (← j, ← t) (a .1 .1))))
+    (λ h q. rw (← j h q, ← t) (c .core-effect .ensures), (λ h q. rw (← j h q, ← t) (a .0), (λ h q. rw (← j h q, ← t) (a .1 .0), λ h q. rw (← j h q, ← t) (a .1 .1))))
 
 pub take-effect-spec : {M : Type 1} → statement M
 take-effect-spec =

@@ -1,6 +1,8 @@
 -- `study::whole::effect_here` meets its contract, case by case. Assumes nothing.
 use mathlib.Core.Path.{subst, sym}
+use native.Mathlib.Omega.{arith}
 use lib.Dec.{T}
+use Rattle.study.proofs.SpanLaws.{effect-length}
 use borrow.Author.Needs.{needs}
 use Rattle.study.proofs.whole.effect_here.Statement.{statement}
 use Rattle.study.proofs.whole.effect_here.Tie as tie
@@ -12,7 +14,10 @@ shared-slice-read-if3 : tie.Need-shared-slice-read-if3
 shared-slice-read-if3 c = search needs
 
 returns : tie.Need-returns
-returns c h = record { between = c .before .before .before .before .between .ensures (c .before .before .before .if1 .taken); there = search needs; kind = search needs }
+returns c h =
+    let b = c .before .before .before in
+    let k = c .if3 .taken in
+    (record { between = b .before .between .ensures (b .if1 .taken); known = omega (arith, effect-length (c .before .before .before .before .before .before .args .bytes .now) k); room = search needs }, k)
 
 returns-2 : tie.Need-returns-2
 returns-2 c h = absurd (subst T (sym h) tt)

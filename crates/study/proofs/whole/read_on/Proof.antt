@@ -1,83 +1,115 @@
--- `study::whole::read_on` meets its contract: the effects, and then what is read at once after them. Assumes nothing.
-use mathlib.Core.Path.{_≡_}
-use mathlib.Core.List.{List, []}
-use Prim.Native.Nat.{ℕ, _+_, _-_, _<_, _≤_}
+-- `study::whole::read_on` meets its contract: whole records, or a byte and the record that it makes whole. Assumes nothing.
+use mathlib.Core.Path.{_∙_}
+use Prim.Native.Nat.{_+_, _<_, _≤_}
 use native.Mathlib.Omega.{arith}
-use lib.ListN.{length, take, drop}
+use lib.ListN.{length}
+use Rattle.study.proofs.SpanLaws.{EnteredEither, either-wide, either-there, either-read, either-byte}
 use borrow.Author.Needs.{needs}
-use Rattle.study.proofs.SpanLaws.{run-more, stays-wide, SpanPart, span-part}
 use Rattle.study.proofs.whole.read_on.Statement.{statement}
 use Rattle.study.proofs.whole.read_on.Tie as tie
 
-read-effects-requires : tie.Need-read-effects-requires
-read-effects-requires c κs = (omega (arith, c .before .before .before .before .before .pre .0), c .before .before .before .before .before .pre .1)
+-- what has been entered
+entered-at : (c : tie.After-enter)
+    → EnteredEither (c .before .before .before .next-here .result) (c .enter .result .whole) (c .before .before .before .before .before .before .args .c) (c .enter .result .core) (c .before .before .before .before .before .before .args .p .now) (c .enter .last .1 .1 .1 .0) (c .before .before .before .before .before .before .args .bytes .now) (c .before .before .before .before .before .before .args .from)
+entered-at c = record { here = c .before .before .before .before .before .before .pre .0; wide = c .before .before .before .before .before .before .pre .1; stays = c .enter .ensures .0; next = c .before .before .before .next-here .ensures; record-whole = c .enter .ensures .1 .0; byte = c .enter .ensures .1 .1 }
 
--- what is read after the effects
-span-at : (c : tie.After-span)
-    → SpanPart (c .before .before .before .before .read-effects .result .core .reading) (c .before .before .before .before .before .before .before .before .before .before .args .bytes .now) (c .before .before .before .before .read-effects .result .at) (c .span .result)
-span-at c = span-part _ (c .before .before .before .before .before .before .before .before .before .before .args .bytes .now) _ _ (c .before .before .before .before .read-effects .ensures .0 .1) (c .span .ensures)
+-- the bytes that are read
+there-at : (c : tie.After-taken-from) → (c .before .before .before .before .before .before .before .before .before .before .before .before .before .before .before .before .before .before .before .before .before .before .before .before .args .from < c .before .before .before .before .before .before .before .before .before .before .before .before .before .before .before .before .before .before .before .before .before .before .before .before .args .from + c .taken-from .result) × (c .before .before .before .before .before .before .before .before .before .before .before .before .before .before .before .before .before .before .before .before .before .before .before .before .args .from + c .taken-from .result ≤ length (c .before .before .before .before .before .before .before .before .before .before .before .before .before .before .before .before .before .before .before .before .before .before .before .before .args .bytes .now))
+there-at c =
+    let a = c .before .before .before .before .before .before .before .before .before .before .before .before .before .before .before .before .before .before .before .before .before .before .before .before in
+    rw (c .taken-from .ensures)
+    (either-there (c .before .before .before .before .before .before .before .before .before .before .before .before .before .before .before .before .before .before .before .before .before .next-here .result) (a .args .bytes .now) (c .before .before .before .before .before .before .before .before .before .before .before .before .before .before .before .before .before .before .enter .last .1 .1 .1 .0) _ (a .args .from) _ (a .pre .0) (c .before .before .before .before .before .before .before .before .before .before .before .source .ensures) (c .before .before .before .before .read-records .ensures .0))
 
-wide-at : (c : tie.After-read-effects) → length (c .read-effects .last .1 .1 .1 .0) ≡ 16
-wide-at c =
-    stays-wide _ _ (take (c .read-effects .result .at - c .before .before .before .before .before .before .args .from) (drop (c .before .before .before .before .before .before .args .from) (c .before .before .before .before .before .before .args .bytes .now)))
-    (c .read-effects .ensures .1 []) (c .before .before .before .before .before .before .pre .1)
+sub-next-here : tie.Need-sub-next-here
+sub-next-here c = search needs
 
-sub-span : tie.Need-sub-span
-sub-span c = search needs
+part-next-here-start : tie.Need-part-next-here-start
+part-next-here-start c = search needs
 
-part-span-start : tie.Need-part-span-start
-part-span-start c = search needs
+part-next-here-end : tie.Need-part-next-here-end
+part-next-here-end c = search needs
 
-part-span-end : tie.Need-part-span-end
-part-span-end c = search needs
+next-here-requires : tie.Need-next-here-requires
+next-here-requires c κs = search needs
 
-span-requires : tie.Need-span-requires
-span-requires c κs = search needs
+sub-enter : tie.Need-sub-enter
+sub-enter c = search needs
 
-add-next : tie.Need-add-next
-add-next c = omega (arith, span-at c .room, c .before .before .before .before .before .before .before .before .before .before .good)
+part-enter-start : tie.Need-part-enter-start
+part-enter-start c = search needs
 
-sub-read-span : tie.Need-sub-read-span
-sub-read-span c = omega arith
+part-enter-end : tie.Need-part-enter-end
+part-enter-end c = search needs
 
-part-read-span-start : tie.Need-part-read-span-start
-part-read-span-start c = search needs
+enter-requires : tie.Need-enter-requires
+enter-requires c κs = search needs
 
-part-read-span-end : tie.Need-part-read-span-end
-part-read-span-end c = span-at c .room
+thresholds-requires : tie.Need-thresholds-requires
+thresholds-requires c κs = search needs
 
-read-span-requires : tie.Need-read-span-requires
-read-span-requires c κs = (wide-at (c .before .before .before .before .before .before .before .before .before .before), span-at (c .before .before .before .before .before .before) .whole)
+rows-requires : tie.Need-rows-requires
+rows-requires c κs = search needs
+
+sub-source : tie.Need-sub-source
+sub-source c = search needs
+
+part-source-start : tie.Need-part-source-start
+part-source-start c = search needs
+
+part-source-end : tie.Need-part-source-end
+part-source-end c = search needs
+
+source-requires : tie.Need-source-requires
+source-requires c κs = search needs
+
+read-records-requires : tie.Need-read-records-requires
+read-records-requires c κs =
+    let a = c .before .before .before .before .before .before .before .before .before .before .before .before .before .before .before .before .before .before .before in
+    let e = entered-at (c .before .before .before .before .before .before .before .before .before .before .before .before .before) in
+    (c .before .before .before .before .before .before .before .before .before .before .thresholds .ensures, c .before .before .before .before .before .before .before .before .before .rows .ensures, either-wide (c .before .before .before .before .before .before .before .before .before .before .before .before .before .before .before .before .next-here .result) _ (a .args .bytes .now) (c .before .before .before .before .before .before .before .before .before .before .before .before .before .enter .last .1 .1 .1 .0) _ (a .args .from) (e .next) (e .stays ∙ a .pre .1) (c .before .before .before .before .before .before .source .ensures))
+
+clear-requires : tie.Need-clear-requires
+clear-requires c κs = search needs
+
+taken-from-requires : tie.Need-taken-from-requires
+taken-from-requires c κs = search needs
+
+add-end : tie.Need-add-end
+add-end c = omega (arith, there-at c, c .before .before .before .before .before .before .before .before .before .before .before .before .before .before .before .before .before .before .before .before .before .before .before .before .good)
 
 returns : tie.Need-returns
 returns c =
-    let p = c .before .before .before .before .before .before .before in
-    let r = p .before .before .before .before in
-    let a = r .before .before .before .before .before .before .args in
-    let s = span-at p in
-    let e = r .read-effects .ensures in
-    let n = r .read-effects .result .at in
-    ((omega (arith, s .some, e .0 .0), s .room), run-more _ _ _ (a .bytes .now) (a .from) n (n + p .span .result) (e .0 .0) (omega arith) (e .1 _) (c .read-span .ensures))
+    let r = c .before .before .before .before .read-records .ensures in
+    (there-at c, rw (c .before .before .clear .ensures, c .taken-from .ensures) (either-read _ _ _ _ _ _ _ _ _ _ _ _ _ _ _ (entered-at (c .before .before .before .before .before .before .before .before .before .before .before .before .before .before .before .before .before .before)) (c .before .before .before .before .before .before .before .before .before .before .before .before .before .before .before .before .if1 .taken) (c .before .before .before .before .before .before .before .before .before .before .before .source .ensures) (r .0) (r .1)))
+
+add-next : tie.Need-add-next
+add-next c = search needs
 
 returns-2 : tie.Need-returns-2
-returns-2 c =
-    let r = c .before .before in
-    let e = r .read-effects .ensures in
-    ((omega (arith, c .if1 .left, r .before .before .before .before .before .before .pre .0, e .0 .1), e .0 .1), e .1 _)
+returns-2 c = ((omega arith, omega (arith, c .before .before .before .before .before .before .before .before .pre .0)), either-byte _ _ _ _ _ _ _ _ _ _ _ _ (entered-at (c .before .before)) (c .if1 .left))
 
 pub read-on-spec : {M : Type 1} → statement M
 read-on-spec =
     tie.close
     (tie.spec
-    read-effects-requires
-    sub-span
-    part-span-start
-    part-span-end
-    span-requires
-    add-next
-    sub-read-span
-    part-read-span-start
-    part-read-span-end
-    read-span-requires
+    sub-next-here
+    part-next-here-start
+    part-next-here-end
+    next-here-requires
+    sub-enter
+    part-enter-start
+    part-enter-end
+    enter-requires
+    thresholds-requires
+    rows-requires
+    sub-source
+    part-source-start
+    part-source-end
+    source-requires
+    read-records-requires
+    clear-requires
+    taken-from-requires
+    add-end
     returns
+    add-next
     returns-2)

@@ -1,0 +1,53 @@
+-- `study::records::read_outcome` meets its contract, case by case. Assumes nothing.
+use mathlib.Core.Path.{refl}
+use Rattle.model.specs.Machine.{accepted, ownFaultIn, withReading}
+use Rattle.study.proofs.RecordLaws.{place-refused, own-refused, without-fault}
+use borrow.Author.Needs.{needs}
+use Rattle.study.proofs.records.read_outcome.Statement.{statement}
+use Rattle.study.proofs.records.read_outcome.Tie as tie
+
+place-fault-requires : tie.Need-place-fault-requires
+place-fault-requires c κs = search needs
+
+refused-requires : tie.Need-refused-requires
+refused-requires c κs = search needs
+
+returns : tie.Need-returns
+unfolding withReading
+returns c q s m f = rw (c .before .before .before .before .pre) (place-refused _ _ _ (c .before .before .place-fault .ensures) (c .before .if1 .taken) (rw (c .refused .ensures) refl))
+
+own-outcome-requires : tie.Need-own-outcome-requires
+own-outcome-requires c κs = search needs
+
+refused-requires-2 : tie.Need-refused-requires-2
+refused-requires-2 c κs = search needs
+
+returns-2 : tie.Need-returns-2
+unfolding ownFaultIn withReading
+returns-2 c q s m f =
+    let p = c .before .before .before .before in
+    rw (p .before .before .pre)
+    (own-refused _ _ _ _ (p .place-fault .ensures) (c .before .before .before .if1 .left) (c .before .before .own-outcome .ensures) (c .before .if2 .taken) (rw (c .refused2 .ensures) refl))
+
+take-outcome-requires : tie.Need-take-outcome-requires
+take-outcome-requires c κs = search needs
+
+returns-3 : tie.Need-returns-3
+unfolding accepted ownFaultIn
+returns-3 c q s m f =
+    let p = c .before .before .before .before in
+    rw (p .before .before .pre)
+    (without-fault _ _ _ _ (p .place-fault .ensures) (c .before .before .before .if1 .left) (c .before .before .own-outcome .ensures) (c .before .if2 .left) (rw (c .take-outcome .ensures) refl))
+
+pub read-outcome-spec : {M : Type 1} → statement M
+read-outcome-spec =
+    tie.close
+    (tie.spec
+    place-fault-requires
+    refused-requires
+    returns
+    own-outcome-requires
+    refused-requires-2
+    returns-2
+    take-outcome-requires
+    returns-3)

@@ -1,0 +1,42 @@
+-- `study::whole::next_here` meets its contract, case by case. Assumes nothing.
+use mathlib.Core.Path.{subst, sym}
+use native.Mathlib.Omega.{arith}
+use lib.Dec.{T}
+use borrow.Author.Needs.{needs}
+use Rattle.study.proofs.whole.next_here.Statement.{statement}
+use Rattle.study.proofs.whole.next_here.Tie as tie
+
+between-requires : tie.Need-between-requires
+between-requires c κs = search needs
+
+shared-slice-read-body-length : tie.Need-shared-slice-read-body-length
+shared-slice-read-body-length c = search needs
+
+body-length-requires : tie.Need-body-length-requires
+body-length-requires c κs = search needs
+
+returns : tie.Need-returns
+returns c h =
+    let b = c .before .before .before .before in
+    record { between = b .before .between .ensures (b .if1 .taken); known = omega (arith, c .if3 .taken, c .before .body-length .ensures); room = search needs }
+
+returns-2 : tie.Need-returns-2
+returns-2 c h = absurd (subst T (sym h) tt)
+
+returns-3 : tie.Need-returns-3
+returns-3 c h = absurd (subst T (sym h) tt)
+
+returns-4 : tie.Need-returns-4
+returns-4 c h = absurd (subst T (sym h) tt)
+
+pub next-here-spec : {M : Type 1} → statement M
+next-here-spec =
+    tie.close
+    (tie.spec
+    between-requires
+    shared-slice-read-body-length
+    body-length-requires
+    returns
+    returns-2
+    returns-3
+    returns-4)
