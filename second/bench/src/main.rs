@@ -1,6 +1,8 @@
-//! Times both implementations on the same studies in the same run.
+//! Times both implementations and a straightforward reader on the same studies
+//! in the same run.
 
 mod layout;
+mod plain;
 mod studies;
 
 use std::hint::black_box;
@@ -52,6 +54,19 @@ fn second_sum_at(bytes: &[u8], size: usize, target: u16) -> u64 {
         .map_or(0, |figures| figures.sum)
 }
 
+/// The straightforward reader, asked in the same way.
+#[inline(never)]
+fn plain_sum_at(bytes: &[u8], size: usize, target: u16) -> u64 {
+    let mut reader = plain::Reader::new();
+    for piece in bytes.chunks(size.max(1)) {
+        reader.piece(piece);
+    }
+    reader
+        .target(target)
+        .figures
+        .map_or(0, |figures| figures.sum)
+}
+
 /// One plain pass: a checksum that needs each byte after the one before.
 #[inline(never)]
 fn plain_pass(bytes: &[u8]) -> u64 {
@@ -70,8 +85,9 @@ fn median(times: &mut [f64]) -> f64 {
     times[times.len() / 2]
 }
 
-/// Both must give the same sum for every target, and for one more that is not
-/// there. The plain sizes of pieces are tried on some targets.
+/// All three must give the same sum for every target, and for one more that is
+/// not there. The small sizes of pieces are tried on some targets. The two in
+/// Rust must also give the same totals and the same figures of every target.
 fn check(input: &Input) -> bool {
     let bytes = &input.bytes;
     let mut reached = 0;
@@ -80,16 +96,25 @@ fn check(input: &Input) -> bool {
         let sizes = if every { &SIZES[..] } else { &SIZES[..1] };
         for &size in sizes {
             let first = first::sum_at(bytes, size, target);
+            let plain = plain_sum_at(bytes, size, target);
             let second = second_sum_at(bytes, size, target);
-            if first != second {
+            if first != second || plain != second {
                 println!(
-                    "{}: target {target} in pieces of {size}: {first} and {second} differ",
+                    "{}: target {target} in pieces of {size}: {first}, {plain} and {second} differ",
                     input.name
                 );
                 return false;
             }
             reached += u16::from(first > 0 && size == SIZES[0]);
         }
+    }
+    let (mut reader, mut study) = (plain::Reader::new(), desk::Study::new());
+    let answers = (reader.piece(bytes), study.piece(bytes));
+    let figures_agree =
+        (0..=input.targets).all(|target| reader.target(target) == study.target(target));
+    if answers.0 != answers.1 || reader.totals() != study.totals() || !figures_agree {
+        println!("{}: the two readers in Rust differ", input.name);
+        return false;
     }
     println!(
         "{}: {} bytes, {} records, {} targets: the sums of all targets agree, {reached} above 0",
@@ -104,26 +129,31 @@ fn check(input: &Input) -> bool {
 fn measure(input: &Input, size: usize) {
     let bytes = black_box(&input.bytes[..]);
     let size = black_box(size);
-    let mut times = [const { Vec::new() }; 3];
+    let mut times = [const { Vec::new() }; 4];
     for run in 0..RUNS {
         let target = run as u16 % input.targets;
         let (first_time, first) = seconds(|| first::sum_at(bytes, size, target));
+        let (plain_time, plain) = seconds(|| plain_sum_at(bytes, size, target));
         let (second_time, second) = seconds(|| second_sum_at(bytes, size, target));
         let (pass_time, _) = seconds(|| plain_pass(bytes));
         assert_eq!(first, second, "sums of target {target} in a timed run");
+        assert_eq!(plain, second, "sums of target {target} in a timed run");
         times[0].push(first_time);
-        times[1].push(second_time);
-        times[2].push(pass_time);
+        times[1].push(plain_time);
+        times[2].push(second_time);
+        times[3].push(pass_time);
     }
-    let [first, second, pass] = times.map(|mut times| median(&mut times));
+    let [first, plain, second, pass] = times.map(|mut times| median(&mut times));
     let rate = |time: f64| bytes.len() as f64 / 1e6 / time;
     println!(
-        "{:<16} {:>7} {:>12.1} {:>12.1} {:>12.1} {:>13.2} {:>13.2}",
+        "{:<16} {:>6} {:>8.1} {:>11.1} {:>8.1} {:>8.1} {:>18.2} {:>12.2} {:>12.2}",
         input.name,
         size,
         rate(first),
+        rate(plain),
         rate(second),
         rate(pass),
+        first / plain,
         first / second,
         first / pass
     );
@@ -139,14 +169,25 @@ fn main() {
         std::process::exit(1);
     }
     println!();
-    println!("Median of {RUNS} runs each, the three taking turns. MB is 10^6 bytes.");
-    println!("Plain pass: sum = (sum rotated left by 1) + byte, one byte after the other.");
+    println!("Median of {RUNS} runs each, the three readers and the pass taking turns. The first");
+    println!("four figures are MB/s (10^6 bytes), the last three ratios of times.");
+    println!("Rattle: the first implementation. Rust: the second one, written for speed.");
+    println!("Plain Rust: a straightforward reader of the same rules, second/bench/src/plain.rs.");
+    println!("Pass: sum = (sum rotated left by 1) + byte, one byte after the other.");
     println!("Every run starts from a fresh study. Between runs no buffer is cleared: the");
     println!("study's bytes stay as they are in memory and in the caches.");
     println!();
     println!(
-        "{:<16} {:>7} {:>12} {:>12} {:>12} {:>13} {:>13}",
-        "study", "pieces", "Rattle MB/s", "Rust MB/s", "pass MB/s", "Rattle/Rust", "Rattle/pass"
+        "{:<16} {:>6} {:>8} {:>11} {:>8} {:>8} {:>18} {:>12} {:>12}",
+        "study",
+        "pieces",
+        "Rattle",
+        "plain Rust",
+        "Rust",
+        "pass",
+        "Rattle/plain Rust",
+        "Rattle/Rust",
+        "Rattle/pass"
     );
     for input in &inputs {
         for size in SIZES {
