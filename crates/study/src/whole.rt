@@ -7,7 +7,7 @@ ghost use lib.ListN.{length, getD, take, drop, replicate};
 ghost use Rattle.log2.specs.Logarithm.{Thresholds};
 ghost use Rattle.probit.specs.Table.{RowsReached};
 ghost use Rattle.numeric.specs.Choice.{pick};
-ghost use Rattle.model.specs.Verdict.{bodyLength, decode};
+ghost use Rattle.model.specs.Verdict.{decode};
 ghost use Rattle.model.specs.Machine.{core, reading, state, recordRead, cleared, step, readAll};
 ghost use Rattle.study.specs.Spans.{Between, Next, lengthOf, afterFirst, Records};
 use crate::entering::Entered;

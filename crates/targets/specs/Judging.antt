@@ -1,4 +1,4 @@
--- The judged chance of the effect whose record stands in the pending bytes. Assumes nothing.
+-- The judged chance of an effect by its record. Assumes nothing.
 use mathlib.Core.List.{List}
 use Prim.Native.Nat.{ℕ}
 use Rattle.terms.specs.Terms.{seconds}
