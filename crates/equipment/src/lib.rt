@@ -148,20 +148,17 @@ pub fn damage(
     if 5 < class {
         return none();
     }
-    if kind == 5 {
-        return Judged {
-            chance: blast(table, rows, blast_row(class), intensity),
-            judged: true,
-        };
-    }
-    if kind == 4 {
-        return none();
-    }
     if kind == 0 {
         return none();
     }
     if kind <= 3 {
         return fire(table, rows, 600, class, volume, intensity, duration);
+    }
+    if kind == 5 {
+        return Judged {
+            chance: blast(table, rows, blast_row(class), intensity),
+            judged: true,
+        };
     }
     none()
 }

@@ -102,18 +102,6 @@ pub fn death(
 ) -> Judged
     ensures { λ r. ⌜ (Thresholds (now (table .entry)) → RowsReached (now (rows .entry)) → r ≡ deathOf seconds kind setting intensity duration) ⌝ }
 {
-    if kind == 5 {
-        return Judged {
-            chance: blast(setting, intensity),
-            judged: true,
-        };
-    }
-    if kind == 4 {
-        return Judged {
-            chance: flash(intensity),
-            judged: true,
-        };
-    }
     if kind == 0 {
         return Judged {
             chance: 0,
@@ -123,6 +111,18 @@ pub fn death(
     if kind <= 3 {
         return Judged {
             chance: fire(table, rows, 20, 36_380_000, setting, intensity, duration),
+            judged: true,
+        };
+    }
+    if kind == 4 {
+        return Judged {
+            chance: flash(intensity),
+            judged: true,
+        };
+    }
+    if kind == 5 {
+        return Judged {
+            chance: blast(setting, intensity),
             judged: true,
         };
     }

@@ -1,12 +1,12 @@
 // What a study keeps of one target.
 ghost use mathlib.Core.Path.{_≡_};
+ghost use Prim.Native.Nat.{_+_};
+ghost use Rattle.numeric.specs.Share.{shareOf};
 ghost use Rattle.log2.specs.Logarithm.{Thresholds};
 ghost use Rattle.probit.specs.Table.{RowsReached};
 ghost use Rattle.terms.specs.Terms.{seconds};
 ghost use Rattle.vulnerability.specs.Effect.{effectOn};
-ghost use Rattle.model.specs.Machine.{packedFacts, unpackedFacts, markedFacts, rowAfter};
-use state::Branch;
-use state::Row;
+ghost use Rattle.model.specs.Machine.{upTo, most32, most64, packedFacts, unpackedFacts, markedFacts};
 use terms::Judged;
 use terms::Target;
 
@@ -46,7 +46,7 @@ pub fn judge_effect(
 }
 
 // Equipment is marked by an effect that lists it.
-fn mark(x: u64, chance: u32, leak: u64) -> u64
+pub fn mark(x: u64, chance: u32, leak: u64) -> u64
     ensures { λ r. ⌜ r ≡ markedFacts x chance leak ⌝ }
 {
     if x / 8 % 8 == 0 {
@@ -58,14 +58,16 @@ fn mark(x: u64, chance: u32, leak: u64) -> u64
     x
 }
 
-// An effect of a chance on one target. A chance of 0 changes the margin alone.
-pub fn add_effect(w: Row, b: Branch, chance: u32) -> Row
-    ensures { λ r. ⌜ r ≡ rowAfter w b chance ⌝ }
-    ensures { λ r. ⌜ (chance ≡ 0 → (r .sum ≡ w .sum) × (r .facts ≡ w .facts)) ⌝ }
+// A target's sum after an effect of a chance, in an outcome of a frequency.
+pub fn sum_after(sum: u64, frequency: u64, chance: u32) -> u64
+    ensures { λ r. ⌜ r ≡ upTo most64 sum (shareOf frequency chance) ⌝ }
 {
-    Row {
-        sum: numeric::add64(w.sum, numeric::share(b.frequency, chance)),
-        margin: numeric::add32(w.margin, numeric::add32(b.above, 1)),
-        facts: mark(w.facts, chance, b.leak),
-    }
+    numeric::add64(sum, numeric::share(frequency, chance))
+}
+
+// Its margin after an effect, in an outcome with branchings above it.
+pub fn margin_after(margin: u32, above: u32) -> u32
+    ensures { λ r. ⌜ r ≡ upTo most32 margin (above + 1) ⌝ }
+{
+    numeric::add32(margin, numeric::add32(above, 1))
 }

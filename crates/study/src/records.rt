@@ -1,14 +1,15 @@
 // A record that has been entered is read: taken, or refused at its first byte.
 ghost use mathlib.Core.Path.{_≡_};
 ghost use mathlib.Core.List.{List};
-ghost use Prim.Native.Nat.{ℕ};
+ghost use Prim.Native.Nat.{ℕ, _+_};
 ghost use lib.ListN.{getD};
 ghost use Rattle.log2.specs.Logarithm.{Thresholds};
 ghost use Rattle.probit.specs.Table.{RowsReached};
 ghost use Rattle.model.specs.Content.{given, described, inSeconds};
 ghost use Rattle.model.specs.Format.{openingRec, targetRec, leakRec, branchingRec, outcomeRec, effectRec, closingRec};
-ghost use Rattle.model.specs.Verdict.{decode, field, factsAt};
+ghost use Rattle.model.specs.Verdict.{bodyLength, decode, field, factsAt};
 ghost use Rattle.model.specs.Machine.{state, core, refusedWith, recordRead};
+ghost use Rattle.study.specs.Spans.{lengthOf};
 use crate::faults::own_branching;
 use crate::faults::own_closing;
 use crate::faults::own_effect;
@@ -17,6 +18,12 @@ use crate::faults::own_outcome;
 use crate::faults::own_target;
 use crate::faults::place_fault;
 use state::Core;
+
+// The study after some bytes, and how many they were.
+pub(crate) struct Run {
+    pub(crate) core: Core,
+    pub(crate) at: usize,
+}
 
 // A record is refused at its first byte.
 fn refused(c: Core, n: u8) -> Core
@@ -111,28 +118,43 @@ fn read_closing(c: Core, p: &[u8]) -> Core
     counting::core_closing(c)
 }
 
-// A record of any kind but an effect.
-pub(crate) fn read_other(c: Core, p: &[u8], stack: &mut [u64; 9], facts: &mut [u64; 256]) -> Core
+// The study after a record of a kind.
+fn ended(c: Core, kind: u8) -> Run
+    ensures { λ r. ⌜ (r .core ≡ c) × (r .at ≡ bodyLength kind + 1) ⌝ }
+{
+    let n = decoding::body_length(kind) as usize + 1;
+    Run { core: c, at: n }
+}
+
+// A record of any kind but an effect, and its length.
+pub(crate) fn read_other(c: Core, p: &[u8], stack: &mut [u64; 9], facts: &mut [u64; 256]) -> Run
     requires { ⌜ (getD (now p) 0 0 ≡ 6 → ⊥) ⌝ }
-    ensures { λ r. ⌜ ((q s m : List ℕ) → state r q (now (stack .exit)) s m (now (facts .exit)) ≡ recordRead (state c q (now (stack .entry)) s m (now (facts .entry))) (decode (now (p .entry)))) ⌝ }
+    ensures { λ r. ⌜ r .at ≡ lengthOf (now (p .entry)) ⌝ }
+    ensures { λ r. ⌜ ((q s m : List ℕ) → state (r .core) q (now (stack .exit)) s m (now (facts .exit)) ≡ recordRead (state c q (now (stack .entry)) s m (now (facts .entry))) (decode (now (p .entry)))) ⌝ }
 {
     let kind = decoding::kind(p);
     if kind == 5 {
-        return read_outcome(c, p, stack);
+        let after = read_outcome(c, p, stack);
+        return ended(after, kind);
     }
     if kind == 4 {
-        return read_branching(c, p, stack);
+        let after = read_branching(c, p, stack);
+        return ended(after, kind);
     }
     if kind == 3 {
-        return read_leak(c, p, stack);
+        let after = read_leak(c, p, stack);
+        return ended(after, kind);
     }
     if kind == 2 {
-        return read_target(c, p, facts);
+        let after = read_target(c, p, facts);
+        return ended(after, kind);
     }
     if kind == 1 {
-        return read_opening(c, p);
+        let after = read_opening(c, p);
+        return ended(after, kind);
     }
-    read_closing(c, p)
+    let after = read_closing(c, p);
+    ended(after, kind)
 }
 
 pub(crate) fn read_effect(

@@ -12,16 +12,11 @@ ghost use Rattle.model.specs.Machine.{core, reading, state, recordRead, cleared
 ghost use Rattle.study.specs.Spans.{Between, Next, lengthOf, afterFirst, Records};
 use crate::entering::Entered;
 use crate::entering::enter_byte;
+use crate::records::Run;
 use crate::records::read_effect;
 use crate::records::read_other;
 use state::Core;
 use state::Reading;
-
-// The study after some bytes, and how many they were.
-pub(crate) struct Run {
-    pub(crate) core: Core,
-    pub(crate) at: usize,
-}
 
 // Whether the reading stands between two records, far below the greatest place.
 fn between(h: Reading) -> bool
@@ -133,9 +128,7 @@ fn read_some(
     if kind == 6 {
         return read_effects(table, rows, c, bytes, sums, margins, facts);
     }
-    let n = decoding::body_length(kind) as usize + 1;
-    let after = read_other(c, bytes, stack, facts);
-    Run { core: after, at: n }
+    read_other(c, bytes, stack, facts)
 }
 
 // The record that the bytes begin with, which has been entered, and the whole records that follow it.

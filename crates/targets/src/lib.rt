@@ -1,16 +1,15 @@
 // Targets, and effects on them (the machine of the crate model).
 ghost use mathlib.Core.Path.{_≡_};
+ghost use Prim.Native.Nat.{_≤_};
 ghost use Rattle.log2.specs.Logarithm.{Thresholds};
 ghost use Rattle.probit.specs.Table.{RowsReached};
 ghost use Rattle.model.specs.Verdict.{field, factsAt};
-ghost use Rattle.model.specs.Machine.{core, taken, oneRecord, oneTarget, store, fetch, packedFacts, effectBranch, effectTally, rowOf, rowAfter};
+ghost use Rattle.model.specs.Machine.{most64, core, taken, oneRecord, oneTarget, store, packedFacts, effectBranch, effectTally, rowOf, rowAfter};
 ghost use Rattle.targets.specs.Judging.{judgedIn};
 use state::Branch;
 use state::Core;
-use state::Row;
-use terms::Judged;
 
-// Reads and stores within an array; a place past its end holds 0, and nothing is stored there.
+// A store within an array; nothing past its end.
 fn put64(l: &mut [u64; 256], t: u16, v: u64)
     ensures { λ _. ⌜ now (l .exit) ≡ store 256 (now (l .entry)) t v ⌝ }
 {
@@ -18,16 +17,6 @@ fn put64(l: &mut [u64; 256], t: u16, v: u64)
     if i < 256 {
         l[i] = v;
     }
-}
-
-fn fetch64(l: &[u64; 256], t: u16) -> u64
-    ensures { λ r. ⌜ r ≡ fetch 256 (now (l .entry)) t ⌝ }
-{
-    let i = t as usize;
-    if i < 256 {
-        return l[i];
-    }
-    0
 }
 
 pub fn take_target(c: Core, p: &[u8], facts: &mut [u64; 256]) -> Core
@@ -40,44 +29,45 @@ pub fn take_target(c: Core, p: &[u8], facts: &mut [u64; 256]) -> Core
     counting::core_target(c)
 }
 
-// An effect of a chance on the target's row. A chance of 0 changes the margin alone.
-fn add_to_row(
+// A sum that is kept is within its width.
+fn as_kept(sum: u64) -> u64
+    ensures { λ r. ⌜ (r ≡ sum) × (r ≤ most64) ⌝ }
+{
+    sum
+}
+
+// An effect on the target that its record names, in an outcome's branch; whether a rule judged it. A chance of 0 changes the margin alone. A number
+// past the arrays has no row, and counts as a place of people.
+fn add_effect(
+    table: &[u32; 256],
+    rows: &[u8; 544],
     b: Branch,
-    t: u16,
-    chance: u32,
+    p: &[u8],
     sums: &mut [u64; 256],
     margins: &mut [u32; 256],
     facts: &mut [u64; 256],
-)
-    ensures { λ _. ⌜ now (sums .exit) ≡ store 256 (now (sums .entry)) t (rowAfter (rowOf (now (sums .entry)) (now (margins .entry)) (now (facts .entry)) t) b chance .sum) ⌝ }
-    ensures { λ _. ⌜ now (margins .exit) ≡ store 256 (now (margins .entry)) t (rowAfter (rowOf (now (sums .entry)) (now (margins .entry)) (now (facts .entry)) t) b chance .margin) ⌝ }
-    ensures { λ _. ⌜ now (facts .exit) ≡ store 256 (now (facts .entry)) t (rowAfter (rowOf (now (sums .entry)) (now (margins .entry)) (now (facts .entry)) t) b chance .facts) ⌝ }
+) -> bool
+    ensures { λ r. ⌜ (Thresholds (now (table .entry)) → RowsReached (now (rows .entry)) → r ≡ judgedIn (now (facts .entry)) (b .kind) (now (p .entry)) .judged) ⌝ }
+    ensures { λ r. ⌜ (Thresholds (now (table .entry)) → RowsReached (now (rows .entry)) → now (sums .exit) ≡ store 256 (now (sums .entry)) (field (now (p .entry)) 1 2) (rowAfter (rowOf (now (sums .entry)) (now (margins .entry)) (now (facts .entry)) (field (now (p .entry)) 1 2)) b (judgedIn (now (facts .entry)) (b .kind) (now (p .entry)) .chance) .sum)) ⌝ }
+    ensures { λ r. ⌜ (Thresholds (now (table .entry)) → RowsReached (now (rows .entry)) → now (margins .exit) ≡ store 256 (now (margins .entry)) (field (now (p .entry)) 1 2) (rowAfter (rowOf (now (sums .entry)) (now (margins .entry)) (now (facts .entry)) (field (now (p .entry)) 1 2)) b (judgedIn (now (facts .entry)) (b .kind) (now (p .entry)) .chance) .margin)) ⌝ }
+    ensures { λ r. ⌜ (Thresholds (now (table .entry)) → RowsReached (now (rows .entry)) → now (facts .exit) ≡ store 256 (now (facts .entry)) (field (now (p .entry)) 1 2) (rowAfter (rowOf (now (sums .entry)) (now (margins .entry)) (now (facts .entry)) (field (now (p .entry)) 1 2)) b (judgedIn (now (facts .entry)) (b .kind) (now (p .entry)) .chance) .facts)) ⌝ }
 {
-    let i = t as usize;
-    if i < 256 {
-        let row = Row {
-            sum: sums[i],
-            margin: margins[i],
-            facts: facts[i],
-        };
-        let after = rows::add_effect(row, b, chance);
-        margins[i] = after.margin;
-        if chance == 0 {
-            return;
-        }
-        sums[i] = after.sum;
-        facts[i] = after.facts;
-    }
-}
-
-// The judged chance of an effect by its record.
-fn judged_of(table: &[u32; 256], rows: &[u8; 544], kind: u8, p: &[u8], facts: &[u64; 256]) -> Judged
-    ensures { λ r. ⌜ (Thresholds (now (table .entry)) → RowsReached (now (rows .entry)) → r ≡ judgedIn (now (facts .entry)) kind (now (p .entry))) ⌝ }
-{
-    let t = decoding::half_at_1(p);
+    let i = decoding::half_at_1(p) as usize;
     let intensity = decoding::word_at_3(p);
     let duration = decoding::half_at_7(p);
-    rows::judge_effect(table, rows, kind, fetch64(facts, t), intensity, duration)
+    if i < 256 {
+        let known = facts[i];
+        let j = rows::judge_effect(table, rows, b.kind, known, intensity, duration);
+        margins[i] = rows::margin_after(margins[i], b.above);
+        let sum = as_kept(sums[i]);
+        if j.chance == 0 {
+            return j.judged;
+        }
+        sums[i] = rows::sum_after(sum, b.frequency, j.chance);
+        facts[i] = rows::mark(known, j.chance, b.leak);
+        return j.judged;
+    }
+    true
 }
 
 pub fn take_effect(
@@ -96,7 +86,6 @@ pub fn take_effect(
 {
     let t = decoding::half_at_1(p);
     let b = c.branch;
-    let j = judged_of(table, rows, b.kind, p, facts);
-    add_to_row(b, t, j.chance, sums, margins, facts);
-    counting::core_effect(c, t, j.judged)
+    let judged = add_effect(table, rows, b, p, sums, margins, facts);
+    counting::core_effect(c, t, judged)
 }
