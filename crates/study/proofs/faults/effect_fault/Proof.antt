@@ -15,14 +15,14 @@ naming-fault-requires c κs = search needs
 
 returns-2 : tie.Need-returns-2
 unfolding effectFault
-returns-2 c = le-case _ _ _ _ (search needs) (ne-case _ _ _ _ (search needs) (cc))
+returns-2 c = le-case _ _ _ _ (search needs) (ne-case _ _ _ _ (search needs) (c .naming-fault .ensures))
 
 naming-fault-requires-2 : tie.Need-naming-fault-requires-2
 naming-fault-requires-2 c κs = search needs
 
 returns-3 : tie.Need-returns-3
 unfolding effectFault
-returns-3 c = gt-case _ _ _ _ (search needs) (eq-case _ _ _ _ (search needs) (eq-case _ _ _ _ (search needs) (le-case _ _ _ _ (search needs) (cc))))
+returns-3 c = gt-case _ _ _ _ (search needs) (eq-case _ _ _ _ (search needs) (eq-case _ _ _ _ (search needs) (le-case _ _ _ _ (search needs) (c .naming-fault2 .ensures))))
 
 returns-4 : tie.Need-returns-4
 unfolding effectFault
@@ -33,7 +33,7 @@ naming-fault-requires-3 c κs = search needs
 
 returns-5 : tie.Need-returns-5
 unfolding effectFault
-returns-5 c = gt-case _ _ _ _ (search needs) (eq-case _ _ _ _ (search needs) (ne-case _ _ _ _ (search needs) (cc)))
+returns-5 c = gt-case _ _ _ _ (search needs) (eq-case _ _ _ _ (search needs) (ne-case _ _ _ _ (search needs) (c .naming-fault3 .ensures)))
 
 returns-6 : tie.Need-returns-6
 unfolding effectFault

@@ -16,7 +16,7 @@ branching-fault-requires : tie.Need-branching-fault-requires
 branching-fault-requires c κs = search needs
 
 returns : tie.Need-returns
-returns c = cc
+returns c = rw (c .before .before .before .word-at-1 .ensures, c .before .next-tree .ensures) at (c .branching-fault .ensures)
 
 pub own-branching-spec : {M : Type 1} → statement M
 own-branching-spec =

@@ -13,7 +13,7 @@ closing-fault-requires : tie.Need-closing-fault-requires
 closing-fault-requires c κs = search needs
 
 returns : tie.Need-returns
-returns c = cc
+returns c = rw (c .before .before .before .word-at-1 .ensures, c .before .before .long-at-5 .ensures) at (c .closing-fault .ensures)
 
 pub own-closing-spec : {M : Type 1} → statement M
 own-closing-spec =

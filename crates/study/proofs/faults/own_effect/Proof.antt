@@ -16,7 +16,9 @@ effect-fault-requires : tie.Need-effect-fault-requires
 effect-fault-requires c κs = search needs
 
 returns : tie.Need-returns
-returns c = cc
+returns c =
+    let b = c .before .before .before in
+    rw (b .before .before .half-at-1 .ensures, b .before .word-at-3 .ensures, b .half-at-7 .ensures) at (c .effect-fault .ensures)
 
 pub own-effect-spec : {M : Type 1} → statement M
 own-effect-spec =

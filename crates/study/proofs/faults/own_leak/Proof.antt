@@ -13,7 +13,7 @@ leak-fault-requires : tie.Need-leak-fault-requires
 leak-fault-requires c κs = search needs
 
 returns : tie.Need-returns
-returns c = cc
+returns c = rw (c .before .before .before .word-at-1 .ensures, c .before .before .long-at-5 .ensures) at (c .leak-fault .ensures)
 
 pub own-leak-spec : {M : Type 1} → statement M
 own-leak-spec =

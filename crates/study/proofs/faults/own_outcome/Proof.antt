@@ -13,7 +13,7 @@ outcome-fault-requires : tie.Need-outcome-fault-requires
 outcome-fault-requires c κs = search needs
 
 returns : tie.Need-returns
-returns c = cc
+returns c = rw (c .before .before .byte-at-1 .ensures, c .before .half-at-2 .ensures) at (c .outcome-fault .ensures)
 
 pub own-outcome-spec : {M : Type 1} → statement M
 own-outcome-spec =

@@ -13,7 +13,7 @@ target-fault-requires : tie.Need-target-fault-requires
 target-fault-requires c κs = search needs
 
 returns : tie.Need-returns
-returns c = cc
+returns c = rw (c .before .before .before .half-at-1 .ensures, c .before .before .facts .ensures) at (c .target-fault .ensures)
 
 pub own-target-spec : {M : Type 1} → statement M
 own-target-spec =

@@ -27,14 +27,14 @@ number-fault-requires c κs = search needs
 
 returns-5 : tie.Need-returns-5
 unfolding targetFault
-returns-5 c = gt-case _ _ _ _ (search needs) (ge-case _ _ _ _ (search needs) (ge-case _ _ _ _ (search needs) (ge-case _ _ _ _ (search needs) (eq-case _ _ _ _ (search needs) (cc)))))
+returns-5 c = gt-case _ _ _ _ (search needs) (ge-case _ _ _ _ (search needs) (ge-case _ _ _ _ (search needs) (ge-case _ _ _ _ (search needs) (eq-case _ _ _ _ (search needs) (c .number-fault .ensures)))))
 
 number-fault-requires-2 : tie.Need-number-fault-requires-2
 number-fault-requires-2 c κs = search needs
 
 returns-6 : tie.Need-returns-6
 unfolding targetFault
-returns-6 c = gt-case _ _ _ _ (search needs) (ge-case _ _ _ _ (search needs) (ge-case _ _ _ _ (search needs) (ge-case _ _ _ _ (search needs) (ne-case _ _ _ _ (search needs) (eq-case _ _ _ _ (search needs) (cc))))))
+returns-6 c = gt-case _ _ _ _ (search needs) (ge-case _ _ _ _ (search needs) (ge-case _ _ _ _ (search needs) (ge-case _ _ _ _ (search needs) (ne-case _ _ _ _ (search needs) (eq-case _ _ _ _ (search needs) (c .number-fault2 .ensures))))))
 
 returns-7 : tie.Need-returns-7
 unfolding targetFault
