@@ -1,5 +1,4 @@
 // The study: read in pieces, and reported once it is closed (document 01).
-mod entering;
 mod faults;
 mod pieces;
 mod records;

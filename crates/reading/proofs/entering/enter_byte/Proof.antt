@@ -1,11 +1,11 @@
--- `study::entering::enter_byte` meets its contract, case by case. Assumes nothing.
+-- `reading::entering::enter_byte` meets its contract, case by case. Assumes nothing.
 use mathlib.Core.Path.{refl, sym}
 use Rattle.numeric.proofs.ChoiceLaws.{eq-case, ne-case}
 use Rattle.model.specs.Machine.{step}
 use borrow.Author.Needs.{needs}
-use Rattle.study.proofs.SpanLaws.{store-wide}
-use Rattle.study.proofs.entering.enter_byte.Statement.{statement}
-use Rattle.study.proofs.entering.enter_byte.Tie as tie
+use Rattle.reading.proofs.EnterLaws.{store-wide}
+use Rattle.reading.proofs.entering.enter_byte.Statement.{statement}
+use Rattle.reading.proofs.entering.enter_byte.Tie as tie
 
 put-pending-requires : tie.Need-put-pending-requires
 put-pending-requires c κs = search needs

@@ -1,10 +1,10 @@
--- `study::entering::put_pending` meets its contract, case by case. Assumes nothing.
+-- `reading::entering::put_pending` meets its contract, case by case. Assumes nothing.
 use mathlib.Core.Path.{refl}
 use Rattle.numeric.proofs.ChoiceLaws.{ge-case, lt-case}
 use Rattle.model.specs.Machine.{store}
 use borrow.Author.Needs.{needs}
-use Rattle.study.proofs.entering.put_pending.Statement.{statement}
-use Rattle.study.proofs.entering.put_pending.Tie as tie
+use Rattle.reading.proofs.entering.put_pending.Statement.{statement}
+use Rattle.reading.proofs.entering.put_pending.Tie as tie
 
 element-write-p : tie.Need-element-write-p
 element-write-p c = search needs

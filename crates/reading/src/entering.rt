@@ -6,6 +6,9 @@ ghost use lib.ListN.{length};
 ghost use Rattle.numeric.specs.Choice.{pick};
 ghost use Rattle.model.specs.Verdict.{decode};
 ghost use Rattle.model.specs.Machine.{state, store, recordRead, cleared, body, step};
+use crate::begin;
+use crate::core_reading;
+use crate::grow;
 use state::Core;
 
 fn one_less(x: u8) -> u8
@@ -24,9 +27,9 @@ fn put_pending(p: &mut [u8; 16], at: u8, b: u8)
 }
 
 // The parts that go by value after a byte, and whether it made the record in the pending bytes whole: then it is still to be read.
-pub(crate) struct Entered {
-    pub(crate) core: Core,
-    pub(crate) whole: bool,
+pub struct Entered {
+    pub core: Core,
+    pub whole: bool,
 }
 
 // One byte more of a record that has begun.
@@ -36,8 +39,8 @@ fn enter_more(c: Core, b: u8, p: &mut [u8; 16]) -> Entered
 {
     let h = c.reading;
     put_pending(p, h.have, b);
-    let g = reading::grow(h);
-    let grown = reading::core_reading(c, g);
+    let g = grow(h);
+    let grown = core_reading(c, g);
     if decoding::body_length(p[0]) <= one_less(g.have) {
         return Entered {
             core: grown,
@@ -51,7 +54,7 @@ fn enter_more(c: Core, b: u8, p: &mut [u8; 16]) -> Entered
 }
 
 // One byte more.
-pub(crate) fn enter_byte(c: Core, b: u8, p: &mut [u8; 16]) -> Entered
+pub fn enter_byte(c: Core, b: u8, p: &mut [u8; 16]) -> Entered
     ensures { λ r. ⌜ length (now (p .exit)) ≡ length (now (p .entry)) ⌝ }
     ensures { λ r. ⌜ ((k s m f : List ℕ) → step (state c (now (p .entry)) k s m f) b ≡ pick (r .whole) (cleared (recordRead (state (r .core) (now (p .exit)) k s m f) (decode (now (p .exit))))) (state (r .core) (now (p .exit)) k s m f)) ⌝ }
 {
@@ -59,7 +62,7 @@ pub(crate) fn enter_byte(c: Core, b: u8, p: &mut [u8; 16]) -> Entered
     if h.phase == 0 {
         if h.have == 0 {
             put_pending(p, 0, b);
-            let begun = reading::core_reading(c, reading::begin(h, b));
+            let begun = core_reading(c, begin(h, b));
             return Entered {
                 core: begun,
                 whole: false,
