@@ -9,13 +9,13 @@ ghost use Rattle.model.specs.Content.{given, described, inSeconds};
 ghost use Rattle.model.specs.Format.{openingRec, targetRec, leakRec, branchingRec, outcomeRec, effectRec, closingRec};
 ghost use Rattle.model.specs.Verdict.{decode, field, factsAt};
 ghost use Rattle.model.specs.Machine.{state, core, refusedWith, recordRead};
-use crate::faults::own_branching;
-use crate::faults::own_closing;
-use crate::faults::own_effect;
-use crate::faults::own_leak;
-use crate::faults::own_outcome;
-use crate::faults::own_target;
-use crate::faults::place_fault;
+use crate::bounds::own_branching;
+use crate::bounds::own_leak;
+use crate::bounds::own_outcome;
+use crate::bounds::own_target;
+use crate::bounds::place_fault;
+use faults::own_closing;
+use faults::own_effect;
 use state::Core;
 
 // A record is refused at its first byte.
