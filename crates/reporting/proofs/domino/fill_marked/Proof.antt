@@ -1,17 +1,18 @@
--- `study::reports::fill_marked` meets its contract: after t targets the marked ones below t are at the front of the list. Assumes nothing.
+-- `reporting::domino::fill_marked` meets its contract: after t targets the marked ones below t are at the front of the list. Assumes nothing.
 use mathlib.Core.Path.{_≡_, sym, ap, _∙_}
 use mathlib.Core.Bool.{Bool}
 use mathlib.Core.Logic.{⊎-elim}
+use mathlib.Core.List.{List}
 use Prim.Native.Nat.{ℕ, _-_, _≤_}
 use native.Mathlib.Omega.{arith}
-use lib.ListN.{length, getD}
+use lib.ListN.{length, getD, set}
 use borrow.Author.Needs.{needs}
 use Rattle.model.specs.Sums.{numbersBelow}
 use Rattle.model.specs.Calls.{front}
 use Rattle.model.specs.Machine.{markOf}
-use Rattle.study.proofs.MarkLaws.{below-none, count-in, count-out, front-none, front-in, front-out, front-length, room}
-use Rattle.study.proofs.reports.fill_marked.Statement.{statement}
-use Rattle.study.proofs.reports.fill_marked.Tie as tie
+use Rattle.reporting.proofs.MarkLaws.{below-none, count-in, count-out, front-none, front-in, front-out, front-length, room}
+use Rattle.reporting.proofs.domino.fill_marked.Statement.{statement}
+use Rattle.reporting.proofs.domino.fill_marked.Tie as tie
 
 abbrev Inv-loop : tie.InvT-loop
 Inv-loop facts n list₀ count₀ t₀ list count t =
@@ -73,10 +74,10 @@ loop-again c =
     (λ w.
     let h = count-in g (v .t) (sym e ∙ w .0 .taken) in
     let r = room g l (s .args .n) (v .t) (v .count) (v .list) (v .inv .1) (v .inv .2) (s .pre .1) (sym e ∙ w .0 .taken) (c .before .before .before .loop-test .taken) in
-    (omega arith, omega arith, cc (front-in g l (v .t) (v .count) (v .inv .1) (sym e ∙ w .0 .taken) (r .0))))
+    (omega arith, omega arith, w .1 ∙ ap (λ (x : List ℕ). set x (v .count) (v .t)) (v .inv .2) ∙ front-in g l (v .t) (v .count) (v .inv .1) (sym e ∙ w .0 .taken) (r .0)))
     (λ w.
     let h = count-out g (v .t) (sym e ∙ w .0 .left) in
-    (omega arith, omega arith, cc (front-out g l (v .t) (sym e ∙ w .0 .left))))
+    (omega arith, omega arith, w .1 ∙ v .inv .2 ∙ front-out g l (v .t) (sym e ∙ w .0 .left)))
     (c .if1 .came)
 
 same-length : tie.Need-same-length Inv-loop μ-loop

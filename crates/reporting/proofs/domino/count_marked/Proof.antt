@@ -1,4 +1,4 @@
--- `study::reports::count_marked` meets its contract: after t targets the marked ones below t are counted. Assumes nothing.
+-- `reporting::domino::count_marked` meets its contract: after t targets the marked ones below t are counted. Assumes nothing.
 use mathlib.Core.Path.{_≡_, sym, ap, _∙_}
 use mathlib.Core.Logic.{⊎-elim}
 use Prim.Native.Nat.{ℕ, _-_, _≤_}
@@ -7,9 +7,9 @@ use lib.ListN.{length, getD}
 use borrow.Author.Needs.{needs}
 use Rattle.model.specs.Sums.{numbersBelow}
 use Rattle.model.specs.Machine.{markOf}
-use Rattle.study.proofs.MarkLaws.{below-none, count-in, count-out}
-use Rattle.study.proofs.reports.count_marked.Statement.{statement}
-use Rattle.study.proofs.reports.count_marked.Tie as tie
+use Rattle.reporting.proofs.MarkLaws.{below-none, count-in, count-out}
+use Rattle.reporting.proofs.domino.count_marked.Statement.{statement}
+use Rattle.reporting.proofs.domino.count_marked.Tie as tie
 
 abbrev Inv-loop : tie.InvT-loop
 Inv-loop facts n count₀ t₀ count t =
