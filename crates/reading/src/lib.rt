@@ -1,7 +1,11 @@
 // Where the reading of a study stands.
+mod entering;
+
 ghost use mathlib.Core.Path.{_≡_};
 ghost use Prim.Native.Nat.{_+_, _-_, min};
 ghost use Rattle.model.specs.Machine.{core, begun, grown, refusedWith, numberAfter, placeAfter};
+pub use entering::Entered;
+pub use entering::enter_byte;
 use state::Core;
 use state::Reading;
 

@@ -1,13 +1,23 @@
-// Reports of the totals and of one target.
+// Reports of the totals, of one target, and of the domino list.
+mod domino;
+
 ghost use mathlib.Core.Path.{_≡_};
+ghost use Prim.Native.Nat.{min};
 ghost use Rattle.numeric.specs.Choice.{ifEq};
 ghost use Rattle.model.specs.Calls.{noTotals, noTarget};
 ghost use Rattle.model.specs.Report.{gradeOf};
 ghost use Rattle.model.specs.Machine.{totalsIn, rowReport, markOf};
+pub use domino::report_domino;
 use state::Core;
 use state::Row;
 use state::TargetReport;
 use state::Totals;
+
+pub fn least(x: u16, y: u16) -> u16
+    ensures { λ r. ⌜ r ≡ min x y ⌝ }
+{
+    if x <= y { x } else { y }
+}
 
 fn refused_totals(number: u8, place: u64) -> Totals
     ensures { λ r. ⌜ r ≡ noTotals number place ⌝ }

@@ -1,5 +1,4 @@
 pub mod ViewLaws
-pub mod MarkLaws
 pub mod LoopLaws
 pub mod SpanLaws
 pub mod RecordLaws

@@ -6,18 +6,19 @@ use mathlib.Core.List.{List, [], _∷_, _++_, append-nil}
 use Prim.Native.Nat.{ℕ, _+_, _-_, _<_, _≤_}
 use native.Mathlib.Omega.{arith}
 use native.Mathlib.Numerals.{add-one}
-use lib.ListN.{length, getD, set, take, drop, replicate, length-drop, length-set, take-append-drop}
+use lib.ListN.{length, getD, take, drop, replicate, length-drop, take-append-drop}
 use lib.Seq.{take-all, drop-cons, drop-drop, getD-drop, length-take-le, take-add}
 use lib.Dec.{T}
 use Rattle.numeric.specs.Choice.{pick, ifEq}
-use Rattle.numeric.proofs.ChoiceLaws.{picked-first, picked-second, eq-both, le-both, lt-both}
+use Rattle.numeric.proofs.ChoiceLaws.{picked-first, picked-second, eq-both, le-both}
 use Rattle.state.specs.declared.Core.{Core}
 use Rattle.state.specs.declared.Reading.{Reading}
 use Rattle.model.specs.Verdict.{bodyLength, decode}
-use Rattle.model.specs.Machine.{State, state, core, reading, store, recordRead, cleared, ended, body, step, readAll}
+use Rattle.model.specs.Machine.{State, state, core, reading, recordRead, cleared, ended, body, step, readAll}
 use Rattle.model.proofs.Accepts.{WholeBytes}
 use Rattle.model.proofs.ReadLaws.{Ready, partial, read-append, read-whole, cleared-same}
 use Rattle.model.proofs.CodecLaws.{body-most, decode-prefix, pending-decode}
+use Rattle.reading.proofs.EnterLaws.{store-wide}
 use Rattle.study.specs.Spans.{Between, lengthOf, Next, afterFirst, Records}
 
 -- ---- a record at once
@@ -50,10 +51,6 @@ enter-record c p q k s m f (x ∷ l) n w =
 
 abbrev Wide : State → Type 0
 Wide s = length (s .pending) ≡ 16
-
-pub store-wide : (l : List ℕ) (i v : ℕ) → length (store 16 l i v) ≡ length l
-unfolding store
-store-wide l i v = lt-both (λ (x : List ℕ). length x ≡ length l) i 16 (set l i v) l (length-set l i v) refl
 
 ended-wide : (s : State) → Wide s → Wide (ended s)
 unfolding ended cleared

@@ -1,6 +1,5 @@
 // The study: read in pieces, and reported once it is closed (document 01).
-mod entering;
-mod faults;
+mod bounds;
 mod pieces;
 mod records;
 mod reports;

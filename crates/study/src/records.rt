@@ -10,13 +10,13 @@ ghost use Rattle.model.specs.Format.{openingRec, targetRec, leakRec, branchingR
 ghost use Rattle.model.specs.Verdict.{bodyLength, decode, field, factsAt};
 ghost use Rattle.model.specs.Machine.{state, core, refusedWith, recordRead};
 ghost use Rattle.study.specs.Spans.{lengthOf};
-use crate::faults::own_branching;
-use crate::faults::own_closing;
-use crate::faults::own_effect;
-use crate::faults::own_leak;
-use crate::faults::own_outcome;
-use crate::faults::own_target;
-use crate::faults::place_fault;
+use crate::bounds::own_branching;
+use crate::bounds::own_leak;
+use crate::bounds::own_outcome;
+use crate::bounds::own_target;
+use crate::bounds::place_fault;
+use faults::own_closing;
+use faults::own_effect;
 use state::Core;
 
 // The study after some bytes, and how many they were.

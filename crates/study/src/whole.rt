@@ -10,11 +10,11 @@ ghost use Rattle.numeric.specs.Choice.{pick};
 ghost use Rattle.model.specs.Verdict.{decode};
 ghost use Rattle.model.specs.Machine.{core, reading, state, recordRead, cleared, step, readAll};
 ghost use Rattle.study.specs.Spans.{Between, Next, lengthOf, afterFirst, Records};
-use crate::entering::Entered;
-use crate::entering::enter_byte;
 use crate::records::Run;
 use crate::records::read_effect;
 use crate::records::read_other;
+use reading::Entered;
+use reading::enter_byte;
 use state::Core;
 use state::Reading;
 

@@ -1,4 +1,7 @@
 -- `decoding::half` meets its contract: two bytes are a field of two. Assumes nothing.
+use mathlib.Core.Path.{_≡_, _∙_}
+use Prim.Native.Nat.{ℕ, _+_}
+use lib.ListN.{getD}
 use Rattle.decoding.proofs.Laws.{field-2}
 use borrow.Author.Needs.{needs}
 use Rattle.decoding.proofs.half.Statement.{statement}
@@ -29,7 +32,11 @@ cast-result : tie.Need-cast-result
 cast-result c = search needs
 
 returns : tie.Need-returns
-returns c = cc (field-2 (c .before .before .before .before .before .args .p .now) (c .before .before .before .before .before .args .i))
+returns c =
+    let a = c .before .before .before .before .before .args in
+    let high : _≡_ {A = ℕ} (c .before .before .wide .result) (getD (a .p .now) (a .i) 0) = c .before .before .wide .ensures .0 ∙ c .before .before .before .byte .ensures in
+    let low : _≡_ {A = ℕ} (c .wide2 .result) (getD (a .p .now) (a .i + 1) 0) = c .wide2 .ensures .0 ∙ c .before .byte2 .ensures in
+    rw (high, low) (field-2 (a .p .now) (a .i))
 
 pub half-spec : {M : Type 1} → statement M
 half-spec =

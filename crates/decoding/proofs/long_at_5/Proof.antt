@@ -14,7 +14,7 @@ joined-requires : tie.Need-joined-requires
 joined-requires c κs = search needs
 
 returns : tie.Need-returns
-returns c = cc (field-8 (c .before .before .before .before .args .p .now))
+returns c = rw (c .joined .ensures, c .before .before .word .ensures, c .before .word2 .ensures) (field-8 (c .before .before .before .before .args .p .now))
 
 pub long-at-5-spec : {M : Type 1} → statement M
 long-at-5-spec = tie.close (tie.spec word-requires word-requires-2 joined-requires returns)

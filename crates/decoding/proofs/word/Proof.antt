@@ -1,4 +1,7 @@
 -- `decoding::word` meets its contract: four bytes are a field of four. Assumes nothing.
+use mathlib.Core.Path.{_≡_, _∙_}
+use Prim.Native.Nat.{ℕ, _+_}
+use lib.ListN.{getD}
 use Rattle.decoding.proofs.Laws.{field-4}
 use borrow.Author.Needs.{needs}
 use Rattle.decoding.proofs.word.Statement.{statement}
@@ -56,7 +59,15 @@ add-result-3 : tie.Need-add-result-3
 add-result-3 c = search needs
 
 returns : tie.Need-returns
-returns c = cc (field-4 (c .before .before .before .before .before .before .before .before .before .args .p .now) (c .before .before .before .before .before .before .before .before .before .args .i))
+returns c =
+    let b3 = c .before .before .before in
+    let b6 = b3 .before .before .before in
+    let a = b6 .before .before .before .args in
+    let first : _≡_ {A = ℕ} (b6 .wide .result) (getD (a .p .now) (a .i) 0) = b6 .wide .ensures .0 ∙ b6 .before .byte .ensures in
+    let second : _≡_ {A = ℕ} (b3 .before .wide2 .result) (getD (a .p .now) (a .i + 1) 0) = b3 .before .wide2 .ensures .0 ∙ b3 .before .before .byte2 .ensures in
+    let third : _≡_ {A = ℕ} (c .before .before .wide3 .result) (getD (a .p .now) (a .i + 2) 0) = c .before .before .wide3 .ensures .0 ∙ b3 .byte3 .ensures in
+    let fourth : _≡_ {A = ℕ} (c .wide4 .result) (getD (a .p .now) (a .i + 3) 0) = c .wide4 .ensures .0 ∙ c .before .byte4 .ensures in
+    rw (first, second, third, fourth) (field-4 (a .p .now) (a .i))
 
 pub word-spec : {M : Type 1} → statement M
 word-spec =

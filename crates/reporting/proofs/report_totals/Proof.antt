@@ -11,7 +11,7 @@ refused-totals-requires c κs = search needs
 
 returns : tie.Need-returns
 unfolding totalsIn
-returns c = eq-case _ _ _ _ (search needs) (cc)
+returns c = eq-case _ _ _ _ (search needs) (c .refused-totals .ensures)
 
 returns-2 : tie.Need-returns-2
 unfolding totalsIn
@@ -22,7 +22,7 @@ refused-totals-requires-2 c κs = search needs
 
 returns-3 : tie.Need-returns-3
 unfolding totalsIn
-returns-3 c = ne-case _ _ _ _ (search needs) (ne-case _ _ _ _ (search needs) (cc))
+returns-3 c = ne-case _ _ _ _ (search needs) (ne-case _ _ _ _ (search needs) (c .refused-totals2 .ensures))
 
 pub report-totals-spec : {M : Type 1} → statement M
 report-totals-spec =

@@ -1,0 +1,57 @@
+-- `reading::entering::enter_more` meets its contract, case by case. Assumes nothing.
+use mathlib.Core.Path.{refl, sym}
+use Rattle.numeric.proofs.ChoiceLaws.{gt-case, le-case}
+use Rattle.model.specs.Machine.{body, ended}
+use borrow.Author.Needs.{needs}
+use Rattle.reading.proofs.EnterLaws.{store-wide}
+use Rattle.reading.proofs.entering.enter_more.Statement.{statement}
+use Rattle.reading.proofs.entering.enter_more.Tie as tie
+
+put-pending-requires : tie.Need-put-pending-requires
+put-pending-requires c κs = search needs
+
+grow-requires : tie.Need-grow-requires
+grow-requires c κs = search needs
+
+core-reading-requires : tie.Need-core-reading-requires
+core-reading-requires c κs = search needs
+
+element-copy-out-body-length : tie.Need-element-copy-out-body-length
+element-copy-out-body-length c = search needs
+
+body-length-requires : tie.Need-body-length-requires
+body-length-requires c κs = search needs
+
+one-less-requires : tie.Need-one-less-requires
+one-less-requires c κs = search needs
+
+returns : tie.Need-returns
+unfolding body ended
+returns c = (
+  rw (c .before .before .before .before .before .before .put-pending .ensures) (store-wide _ _ _),
+  λ k s m f.
+      rw (c .before .before .before .before .core-reading .ensures, ← c .before .before .before .before .before .before .put-pending .ensures, ← c .before .before .before .before .before .grow .ensures)
+      (sym (le-case _ _ _ _ (rw (← c .before .before .body-length .ensures, ← c .before .one-less .ensures) (c .if1 .taken)) refl)),
+)
+
+returns-2 : tie.Need-returns-2
+unfolding body ended
+returns-2 c = (
+  rw (c .before .before .before .before .before .before .put-pending .ensures) (store-wide _ _ _),
+  λ k s m f.
+      rw (c .before .before .before .before .core-reading .ensures, ← c .before .before .before .before .before .before .put-pending .ensures, ← c .before .before .before .before .before .grow .ensures)
+      (sym (gt-case _ _ _ _ (rw (← c .before .before .body-length .ensures, ← c .before .one-less .ensures) (c .if1 .left)) refl)),
+)
+
+pub enter-more-spec : {M : Type 1} → statement M
+enter-more-spec =
+    tie.close
+    (tie.spec
+    put-pending-requires
+    grow-requires
+    core-reading-requires
+    element-copy-out-body-length
+    body-length-requires
+    one-less-requires
+    returns
+    returns-2)

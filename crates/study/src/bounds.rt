@@ -1,0 +1,133 @@
+// The fault of a record where a study's bounds are compared (document 01, "Numbers the desk says no with"); 0 is none.
+ghost use mathlib.Core.Path.{_≡_};
+ghost use Rattle.model.specs.Faults.{targetFault, leakFault, branchingFault, outcomeFault};
+ghost use Rattle.model.specs.Verdict.{field, factsAt};
+ghost use Rattle.model.specs.Machine.{top, aboveOf};
+ghost use Rattle.study.specs.Placing.{placeFault};
+use crate::Study;
+use state::Core;
+use terms::Target;
+
+// 5: one record too many, after 2.
+pub(crate) fn place_fault(c: Core, role: u8) -> u8
+    ensures { λ r. ⌜ r ≡ placeFault c role ⌝ }
+{
+    let k = c.counts;
+    let b = c.branch;
+    if faults::order_fault(k.records, b.left, b.height, k.scenarios, role) == 0 {
+        if Study::MOST_RECORDS <= k.records {
+            return 5;
+        }
+        return 0;
+    }
+    2
+}
+
+fn target_fault(targets: u16, number: u16, f: Target) -> u8
+    ensures { λ r. ⌜ r ≡ targetFault targets number f ⌝ }
+{
+    if Study::MOST_TARGETS <= targets {
+        return 5;
+    }
+    if Study::MOST_CLASS < f.class {
+        return 3;
+    }
+    if Study::MOST_SETTING < f.setting {
+        return 3;
+    }
+    if Study::MOST_VOLUME < f.volume {
+        return 3;
+    }
+    if f.class == 0 {
+        return faults::number_fault(number, targets);
+    }
+    if f.setting == 0 {
+        return faults::number_fault(number, targets);
+    }
+    3
+}
+
+fn leak_fault(scenarios: u32, last: u32, number: u32, frequency: u64) -> u8
+    ensures { λ r. ⌜ r ≡ leakFault scenarios last number frequency ⌝ }
+{
+    if Study::MOST_SCENARIOS <= scenarios {
+        return 5;
+    }
+    if frequency < Study::LEAST_FREQUENCY {
+        return 3;
+    }
+    if Study::MOST_FREQUENCY < frequency {
+        return 3;
+    }
+    if scenarios == 0 {
+        return 0;
+    }
+    if last < number {
+        return 0;
+    }
+    4
+}
+
+fn branching_fault(above: u8, chance: u32) -> u8
+    ensures { λ r. ⌜ r ≡ branchingFault above chance ⌝ }
+{
+    if Study::MOST_ABOVE < above {
+        return 5;
+    }
+    if Study::MOST_CHANCE < chance {
+        return 3;
+    }
+    0
+}
+
+fn outcome_fault(kind: u8, effects: u16) -> u8
+    ensures { λ r. ⌜ r ≡ outcomeFault kind effects ⌝ }
+{
+    if Study::MOST_KIND < kind {
+        return 3;
+    }
+    if Study::MOST_EFFECTS < effects {
+        return 3;
+    }
+    if kind == 0 {
+        if effects == 0 {
+            return 0;
+        }
+        return 3;
+    }
+    0
+}
+
+// The faults of each kind of record but for its place.
+pub(crate) fn own_outcome(p: &[u8]) -> u8
+    ensures { λ r. ⌜ r ≡ outcomeFault (field (now (p .entry)) 1 1) (field (now (p .entry)) 2 2) ⌝ }
+{
+    outcome_fault(decoding::byte_at_1(p), decoding::half_at_2(p))
+}
+
+pub(crate) fn own_branching(c: Core, p: &[u8], stack: &[u64; 9]) -> u8
+    ensures { λ r. ⌜ r ≡ branchingFault (aboveOf (top (now (stack .entry)) (c .branch .height))) (field (now (p .entry)) 1 4) ⌝ }
+{
+    let chance = decoding::word_at_1(p);
+    let b = c.branch;
+    let tree = trees::next_tree(stack, b.height);
+    branching_fault((tree % 16) as u8, chance)
+}
+
+pub(crate) fn own_leak(c: Core, p: &[u8]) -> u8
+    ensures { λ r. ⌜ r ≡ leakFault (c .counts .scenarios) (c .counts .last) (field (now (p .entry)) 1 4) (field (now (p .entry)) 5 8) ⌝ }
+{
+    let number = decoding::word_at_1(p);
+    let frequency = decoding::long_at_5(p);
+    let k = c.counts;
+    leak_fault(k.scenarios, k.last, number, frequency)
+}
+
+pub(crate) fn own_target(c: Core, p: &[u8]) -> u8
+    ensures { λ r. ⌜ r ≡ targetFault (c .counts .targets) (field (now (p .entry)) 1 2) (factsAt (now (p .entry))) ⌝ }
+{
+    let number = decoding::half_at_1(p);
+    let f = decoding::facts(p);
+    let k = c.counts;
+    target_fault(k.targets, number, f)
+}
