@@ -3,7 +3,7 @@ ghost use mathlib.Core.Path.{_≡_};
 ghost use Prim.Native.Nat.{_+_, _<_, min, max};
 ghost use Rattle.model.specs.Machine.{fresh, readAll};
 ghost use Rattle.study.specs.View.{view};
-ghost use Rattle.linked.specs.Reported.{sumAfter};
+ghost use Rattle.linked.specs.Reported.{sumAfter, totalAfter};
 use study::Study;
 
 // Where the next piece ends: `size` bytes on, at least one, and not past the last.
@@ -44,4 +44,18 @@ pub extern "C" fn kalliphrax_sum_at(bytes: &[u8], size: u64, target: u16) -> u64
     let s = read_in_pieces(bytes, size);
     let report = s.target(target);
     report.sum
+}
+
+// The total of an outcome kind, in the same way; 0 where the report is refused, and for a number that is no kind.
+#[no_mangle]
+pub extern "C" fn kalliphrax_total_of(bytes: &[u8], size: u64, kind: u8) -> u64
+    ensures { λ r. ⌜ r ≡ totalAfter (now (bytes .entry)) kind ⌝ }
+{
+    let s = read_in_pieces(bytes, size);
+    let report = s.totals();
+    let kinds = report.kinds;
+    if kind < 6 {
+        return kinds[kind as usize];
+    }
+    0
 }

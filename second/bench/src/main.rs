@@ -24,6 +24,12 @@ mod first {
                 size: u64,
                 target: u16,
             ) -> u64;
+            pub fn kalliphrax_total_of(
+                bytes_ptr: *const u8,
+                bytes_len: usize,
+                size: u64,
+                kind: u8,
+            ) -> u64;
         }
     }
 
@@ -34,9 +40,20 @@ mod first {
         unsafe { archive::kalliphrax_sum_at(bytes.as_ptr(), bytes.len(), size as u64, target) }
     }
 
+    #[cfg(not(feature = "stub"))]
+    pub fn total_of(bytes: &[u8], size: usize, kind: u8) -> u64 {
+        // SAFETY: as above.
+        unsafe { archive::kalliphrax_total_of(bytes.as_ptr(), bytes.len(), size as u64, kind) }
+    }
+
     #[cfg(feature = "stub")]
     pub fn sum_at(bytes: &[u8], size: usize, target: u16) -> u64 {
         super::second_sum_at(bytes, size, target)
+    }
+
+    #[cfg(feature = "stub")]
+    pub fn total_of(bytes: &[u8], size: usize, kind: u8) -> u64 {
+        super::second_total_of(bytes, size, kind)
     }
 }
 
@@ -52,6 +69,19 @@ fn second_sum_at(bytes: &[u8], size: usize, target: u16) -> u64 {
         .target(target)
         .figures
         .map_or(0, |figures| figures.sum)
+}
+
+/// The total of an outcome kind, asked in the same way; 0 for no kind.
+#[inline(never)]
+fn second_total_of(bytes: &[u8], size: usize, kind: u8) -> u64 {
+    let mut study = desk::Study::new();
+    for piece in bytes.chunks(size.max(1)) {
+        study.piece(piece);
+    }
+    let totals = study.totals().figures;
+    totals.map_or(0, |totals| {
+        totals.kinds.get(usize::from(kind)).copied().unwrap_or(0)
+    })
 }
 
 /// The straightforward reader, asked in the same way.
@@ -86,8 +116,10 @@ fn median(times: &mut [f64]) -> f64 {
 }
 
 /// All three must give the same sum for every target, and for one more that is
-/// not there. The small sizes of pieces are tried on some targets. The two in
-/// Rust must also give the same totals and the same figures of every target.
+/// not there. The small sizes of pieces are tried on some targets. Both
+/// implementations must give the same total for every outcome kind, and for one
+/// number more that is none. The two readers in Rust must also give the same
+/// totals and the same figures of every target.
 fn check(input: &Input) -> bool {
     let bytes = &input.bytes;
     let mut reached = 0;
@@ -108,6 +140,18 @@ fn check(input: &Input) -> bool {
             reached += u16::from(first > 0 && size == SIZES[0]);
         }
     }
+    for kind in 0..=6 {
+        let size = SIZES[0];
+        let first = first::total_of(bytes, size, kind);
+        let second = second_total_of(bytes, size, kind);
+        if first != second {
+            println!(
+                "{}: the totals of kind {kind}, {first} and {second}, differ",
+                input.name
+            );
+            return false;
+        }
+    }
     let (mut reader, mut study) = (plain::Reader::new(), desk::Study::new());
     let answers = (reader.piece(bytes), study.piece(bytes));
     let figures_agree =
@@ -117,7 +161,7 @@ fn check(input: &Input) -> bool {
         return false;
     }
     println!(
-        "{}: {} bytes, {} records, {} targets: the sums of all targets agree, {reached} above 0",
+        "{}: {} bytes, {} records, {} targets: the sums of all targets and the totals of all kinds agree, {reached} sums above 0",
         input.name,
         bytes.len(),
         input.records,
