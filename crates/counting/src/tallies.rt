@@ -1,8 +1,9 @@
 // The totals of a study.
 ghost use mathlib.Core.Path.{_≡_};
 ghost use Prim.Native.Nat.{_+_, min};
+ghost use lib.ListN.{getD};
 ghost use Rattle.numeric.specs.Choice.{pick};
-ghost use Rattle.model.specs.Machine.{studyTally, kindGrown, outcomeTally, effectTally};
+ghost use Rattle.model.specs.Machine.{upTo, most64, store, studyTally, outcomeTally, effectTally};
 use state::Tally;
 
 pub(crate) fn tally_study(y: Tally, number: u32) -> Tally
@@ -20,27 +21,30 @@ pub(crate) fn tally_study(y: Tally, number: u32) -> Tally
     }
 }
 
-// The total of kind i grows by the frequency of an outcome of the kind.
-fn grown_kind(kind: u8, i: u8, frequency: u64, total: u64) -> u64
-    ensures { λ r. ⌜ r ≡ kindGrown kind i frequency total ⌝ }
+// The total of an outcome's kind grows by its frequency; a number that is no kind has no total.
+fn grow_kind(kinds: &mut [u64; 6], kind: u8, frequency: u64)
+    ensures { λ _. ⌜ now (kinds .exit) ≡ store 6 (now (kinds .entry)) kind (upTo most64 (getD (now (kinds .entry)) kind 0) frequency) ⌝ }
 {
-    if kind == i {
-        return numeric::add64(total, frequency);
+    let i = kind as usize;
+    if i < 6 {
+        kinds[i] = numeric::add64(kinds[i], frequency);
     }
-    total
 }
 
+// The six totals stand in an array while one grows: which one cannot be foreseen.
 pub(crate) fn tally_outcome(y: Tally, kind: u8, frequency: u64) -> Tally
     ensures { λ r. ⌜ r ≡ outcomeTally y kind frequency ⌝ }
 {
+    let mut kinds = [y.kind0, y.kind1, y.kind2, y.kind3, y.kind4, y.kind5];
+    grow_kind(&mut kinds, kind, frequency);
     Tally {
         study: y.study,
-        kind0: grown_kind(kind, 0, frequency, y.kind0),
-        kind1: grown_kind(kind, 1, frequency, y.kind1),
-        kind2: grown_kind(kind, 2, frequency, y.kind2),
-        kind3: grown_kind(kind, 3, frequency, y.kind3),
-        kind4: grown_kind(kind, 4, frequency, y.kind4),
-        kind5: grown_kind(kind, 5, frequency, y.kind5),
+        kind0: kinds[0],
+        kind1: kinds[1],
+        kind2: kinds[2],
+        kind3: kinds[3],
+        kind4: kinds[4],
+        kind5: kinds[5],
         unjudged: y.unjudged,
     }
 }
