@@ -1,7 +1,7 @@
 // Where in a tree the reading stands.
 ghost use mathlib.Core.Path.{_≡_};
 ghost use Prim.Native.Nat.{_+_, _-_, min};
-ghost use Rattle.model.specs.Machine.{leakBranch, branchedBranch, outcomeBranch, effectBranch};
+ghost use Rattle.model.specs.Machine.{leakBranch, branchedBranch, outcomeBranch};
 use state::Branch;
 
 pub(crate) fn enter_leak(b: Branch, frequency: u64) -> Branch
@@ -44,12 +44,6 @@ fn one_less8(x: u8) -> u8
     if x == 0 { 0 } else { x - 1 }
 }
 
-fn one_less16(x: u16) -> u16
-    ensures { λ r. ⌜ r ≡ x - 1 ⌝ }
-{
-    if x == 0 { 0 } else { x - 1 }
-}
-
 // An outcome takes the next tree, as it is packed, and its effects begin.
 pub(crate) fn enter_outcome(b: Branch, tree: u64, kind: u8, effects: u16) -> Branch
     ensures { λ r. ⌜ r ≡ outcomeBranch b tree kind effects ⌝ }
@@ -62,19 +56,5 @@ pub(crate) fn enter_outcome(b: Branch, tree: u64, kind: u8, effects: u16) -> Bra
         kind: kind,
         frequency: tree / 16,
         above: (tree % 16) as u32,
-    }
-}
-
-pub(crate) fn enter_effect(b: Branch, target: u16) -> Branch
-    ensures { λ r. ⌜ r ≡ effectBranch b target ⌝ }
-{
-    Branch {
-        height: b.height,
-        left: one_less16(b.left),
-        next: (target as u32) + 1,
-        leak: b.leak,
-        kind: b.kind,
-        frequency: b.frequency,
-        above: b.above,
     }
 }

@@ -4,9 +4,9 @@ mod counts;
 mod tallies;
 
 ghost use mathlib.Core.Path.{_≡_};
-ghost use Rattle.model.specs.Machine.{core, taken, oneRecord, oneTarget, oneLeak, leakBranch, branchedBranch, outcomeBranch, effectBranch, studyTally, outcomeTally, effectTally, frequencyOf};
+ghost use Rattle.numeric.specs.Choice.{pick};
+ghost use Rattle.model.specs.Machine.{upTo, most32, core, taken, oneRecord, oneTarget, oneLeak, leakBranch, branchedBranch, outcomeBranch, studyTally, outcomeTally, frequencyOf};
 use branches::enter_branching;
-use branches::enter_effect;
 use branches::enter_leak;
 use branches::enter_outcome;
 use counts::count_leak;
@@ -14,7 +14,6 @@ use counts::count_record;
 use counts::count_target;
 use counts::take;
 use state::Core;
-use tallies::tally_effect;
 use tallies::tally_outcome;
 use tallies::tally_study;
 
@@ -94,21 +93,6 @@ pub fn core_outcome(c: Core, tree: u64, kind: u8, effects: u16) -> Core
     }
 }
 
-pub fn core_effect(c: Core, target: u16, judged: bool) -> Core
-    ensures { λ r. ⌜ r ≡ core (taken (c .reading) 0) (oneRecord (c .counts)) (effectBranch (c .branch) target) (effectTally (c .tally) judged) ⌝ }
-{
-    let h = take(c.reading, 0);
-    let k = count_record(c.counts);
-    let b = enter_effect(c.branch, target);
-    let y = tally_effect(c.tally, judged);
-    Core {
-        reading: h,
-        counts: k,
-        branch: b,
-        tally: y,
-    }
-}
-
 pub fn core_closing(c: Core) -> Core
     ensures { λ r. ⌜ r ≡ core (taken (c .reading) 1) (oneRecord (c .counts)) (c .branch) (c .tally) ⌝ }
 {
@@ -122,4 +106,14 @@ pub fn core_closing(c: Core) -> Core
         branch: b,
         tally: y,
     }
+}
+
+// The effects that no rule judged: one more, or as many as before.
+pub fn count_unjudged(unjudged: u32, judged: bool) -> u32
+    ensures { λ r. ⌜ r ≡ upTo most32 unjudged (pick judged 0 1) ⌝ }
+{
+    if judged {
+        return unjudged;
+    }
+    numeric::add32(unjudged, 1)
 }

@@ -2,8 +2,7 @@
 ghost use mathlib.Core.Path.{_≡_};
 ghost use Prim.Native.Nat.{_+_, min};
 ghost use lib.ListN.{getD};
-ghost use Rattle.numeric.specs.Choice.{pick};
-ghost use Rattle.model.specs.Machine.{upTo, most64, store, studyTally, outcomeTally, effectTally};
+ghost use Rattle.model.specs.Machine.{upTo, most64, store, studyTally, outcomeTally};
 use state::Tally;
 
 pub(crate) fn tally_study(y: Tally, number: u32) -> Tally
@@ -46,30 +45,5 @@ pub(crate) fn tally_outcome(y: Tally, kind: u8, frequency: u64) -> Tally
         kind4: kinds[4],
         kind5: kinds[5],
         unjudged: y.unjudged,
-    }
-}
-
-// One more effect that no rule judged, or as many as before.
-fn count_unjudged(unjudged: u32, judged: bool) -> u32
-    ensures { λ r. ⌜ r ≡ min (unjudged + pick judged 0 1) 4294967295 ⌝ }
-{
-    if judged {
-        return unjudged;
-    }
-    numeric::add32(unjudged, 1)
-}
-
-pub(crate) fn tally_effect(y: Tally, judged: bool) -> Tally
-    ensures { λ r. ⌜ r ≡ effectTally y judged ⌝ }
-{
-    Tally {
-        study: y.study,
-        kind0: y.kind0,
-        kind1: y.kind1,
-        kind2: y.kind2,
-        kind3: y.kind3,
-        kind4: y.kind4,
-        kind5: y.kind5,
-        unjudged: count_unjudged(y.unjudged, judged),
     }
 }

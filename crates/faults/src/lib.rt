@@ -92,15 +92,13 @@ fn effect_fault(targets: u16, kind: u8, next: u32, t: u16, intensity: u32, durat
 }
 
 // The faults of an effect but for its place, and those of a closing.
-pub fn own_effect(c: Core, p: &[u8]) -> u8
-    ensures { λ r. ⌜ r ≡ effectFault (c .counts .targets) (c .branch .kind) (c .branch .next) (field (now (p .entry)) 1 2) (field (now (p .entry)) 3 4) (field (now (p .entry)) 7 2) ⌝ }
+pub fn own_effect(targets: u16, kind: u8, next: u32, p: &[u8]) -> u8
+    ensures { λ r. ⌜ r ≡ effectFault targets kind next (field (now (p .entry)) 1 2) (field (now (p .entry)) 3 4) (field (now (p .entry)) 7 2) ⌝ }
 {
     let t = decoding::half_at_1(p);
     let intensity = decoding::word_at_3(p);
     let duration = decoding::half_at_7(p);
-    let k = c.counts;
-    let b = c.branch;
-    effect_fault(k.targets, b.kind, b.next, t, intensity, duration)
+    effect_fault(targets, kind, next, t, intensity, duration)
 }
 
 fn closing_fault(records: u32, leaks: u64, count: u32, sum: u64) -> u8

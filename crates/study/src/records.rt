@@ -3,10 +3,8 @@ ghost use mathlib.Core.Path.{_≡_};
 ghost use mathlib.Core.List.{List};
 ghost use Prim.Native.Nat.{ℕ, _+_};
 ghost use lib.ListN.{getD};
-ghost use Rattle.log2.specs.Logarithm.{Thresholds};
-ghost use Rattle.probit.specs.Table.{RowsReached};
-ghost use Rattle.model.specs.Content.{given, described, inSeconds};
-ghost use Rattle.model.specs.Format.{openingRec, targetRec, leakRec, branchingRec, outcomeRec, effectRec, closingRec};
+ghost use Rattle.model.specs.Content.{given, described};
+ghost use Rattle.model.specs.Format.{openingRec, targetRec, leakRec, branchingRec, outcomeRec, closingRec};
 ghost use Rattle.model.specs.Verdict.{bodyLength, decode, field, factsAt};
 ghost use Rattle.model.specs.Machine.{state, core, refusedWith, recordRead};
 ghost use Rattle.study.specs.Spans.{lengthOf};
@@ -16,7 +14,6 @@ use crate::bounds::own_outcome;
 use crate::bounds::own_target;
 use crate::bounds::place_fault;
 use faults::own_closing;
-use faults::own_effect;
 use state::Core;
 
 // The study after some bytes, and how many they were.
@@ -26,7 +23,7 @@ pub(crate) struct Run {
 }
 
 // A record is refused at its first byte.
-fn refused(c: Core, n: u8) -> Core
+pub(crate) fn refused(c: Core, n: u8) -> Core
     ensures { λ r. ⌜ r ≡ core (refusedWith (c .reading) n) (c .counts) (c .branch) (c .tally) ⌝ }
 {
     reading::core_reading(c, reading::refuse(c.reading, n))
@@ -155,27 +152,4 @@ pub(crate) fn read_other(c: Core, p: &[u8], stack: &mut [u64; 9], facts: &mut [u
     }
     let after = read_closing(c, p);
     ended(after, kind)
-}
-
-pub(crate) fn read_effect(
-    table: &[u32; 256],
-    rows: &[u8; 544],
-    c: Core,
-    p: &[u8],
-    sums: &mut [u64; 256],
-    margins: &mut [u32; 256],
-    facts: &mut [u64; 256],
-) -> Core
-    requires { ⌜ Thresholds (now table) × RowsReached (now rows) × (decode (now p) ≡ effectRec (inSeconds (field (now p) 1 2) (field (now p) 3 4) (field (now p) 7 2))) ⌝ }
-    ensures { λ r. ⌜ ((q k : List ℕ) → state r q k (now (sums .exit)) (now (margins .exit)) (now (facts .exit)) ≡ recordRead (state c q k (now (sums .entry)) (now (margins .entry)) (now (facts .entry))) (decode (now (p .entry)))) ⌝ }
-{
-    let misplaced = place_fault(c, 6);
-    if misplaced != 0 {
-        return refused(c, misplaced);
-    }
-    let own = own_effect(c, p);
-    if own != 0 {
-        return refused(c, own);
-    }
-    targets::take_effect(table, rows, c, p, sums, margins, facts)
 }

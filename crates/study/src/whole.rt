@@ -10,8 +10,8 @@ ghost use Rattle.numeric.specs.Choice.{pick};
 ghost use Rattle.model.specs.Verdict.{decode};
 ghost use Rattle.model.specs.Machine.{core, reading, state, recordRead, cleared, step, readAll};
 ghost use Rattle.study.specs.Spans.{Between, Next, lengthOf, afterFirst, Records};
+use crate::following::read_effects;
 use crate::records::Run;
-use crate::records::read_effect;
 use crate::records::read_other;
 use reading::Entered;
 use reading::enter_byte;
@@ -46,20 +46,6 @@ fn next_here(h: Reading, bytes: &[u8]) -> bool
     false
 }
 
-// The same for an effect.
-fn effect_here(h: Reading, bytes: &[u8]) -> bool
-    ensures { λ r. ⌜ (r ≡ true → Next h (now (bytes .entry)) × (getD (now (bytes .entry)) 0 0 ≡ 6)) ⌝ }
-{
-    if between(h) {
-        if 16 <= bytes.len() {
-            if bytes[0] == 6 {
-                return true;
-            }
-        }
-    }
-    false
-}
-
 // The record that begins here is entered whole.
 fn entered(c: Core, bytes: &[u8]) -> Core
     requires { ⌜ Between (c .reading) ⌝ }
@@ -76,37 +62,6 @@ fn entered(c: Core, bytes: &[u8]) -> Core
         number: 0,
     };
     reading::core_reading(c, begun)
-}
-
-// The effect that the bytes begin with, which has been entered, and the effects that follow it.
-fn read_effects(
-    table: &[u32; 256],
-    rows: &[u8; 544],
-    c: Core,
-    bytes: &[u8],
-    sums: &mut [u64; 256],
-    margins: &mut [u32; 256],
-    facts: &mut [u64; 256],
-) -> Run
-    requires { ⌜ Thresholds (now table) × RowsReached (now rows) × (16 ≤ length (now bytes)) × (getD (now bytes) 0 0 ≡ 6) ⌝ }
-    ensures { λ r. ⌜ Records (now (bytes .entry)) (r .at) ⌝ }
-    ensures { λ r. ⌜ ((q k : List ℕ) → state (r .core) (replicate 16 0) k (now (sums .exit)) (now (margins .exit)) (now (facts .exit)) ≡ afterFirst (state c q k (now (sums .entry)) (now (margins .entry)) (now (facts .entry))) (now (bytes .entry)) (r .at)) ⌝ }
-{
-    let mut core = c;
-    let mut at: usize = 0;
-    while 16 <= bytes.len() - at {
-        let after = read_effect(table, rows, core, &bytes[at..], sums, margins, facts);
-        at += 9;
-        if effect_here(after.reading, &bytes[at..]) {
-            core = entered(after, &bytes[at..]);
-        } else {
-            return Run {
-                core: after,
-                at: at,
-            };
-        }
-    }
-    Run { core: core, at: at }
 }
 
 // The record that the bytes begin with, which has been entered; after an effect also the effects that follow it.

@@ -4,7 +4,7 @@ ghost use Prim.Native.Nat.{_≤_};
 ghost use Rattle.log2.specs.Logarithm.{Thresholds};
 ghost use Rattle.probit.specs.Table.{RowsReached};
 ghost use Rattle.model.specs.Verdict.{field, factsAt};
-ghost use Rattle.model.specs.Machine.{most64, core, taken, oneRecord, oneTarget, store, packedFacts, effectBranch, effectTally, rowOf, rowAfter};
+ghost use Rattle.model.specs.Machine.{most64, core, taken, oneTarget, store, packedFacts, rowOf, rowAfter};
 ghost use Rattle.targets.specs.Judging.{judgedIn};
 use state::Branch;
 use state::Core;
@@ -38,7 +38,7 @@ fn as_kept(sum: u64) -> u64
 
 // An effect on the target that its record names, in an outcome's branch; whether a rule judged it. A chance of 0 changes the margin alone. A number
 // past the arrays has no row, and counts as a place of people.
-fn add_effect(
+pub fn add_effect(
     table: &[u32; 256],
     rows: &[u8; 544],
     b: Branch,
@@ -68,24 +68,4 @@ fn add_effect(
         return j.judged;
     }
     true
-}
-
-pub fn take_effect(
-    table: &[u32; 256],
-    rows: &[u8; 544],
-    c: Core,
-    p: &[u8],
-    sums: &mut [u64; 256],
-    margins: &mut [u32; 256],
-    facts: &mut [u64; 256],
-) -> Core
-    ensures { λ r. ⌜ (Thresholds (now (table .entry)) → RowsReached (now (rows .entry)) → r ≡ core (taken (c .reading) 0) (oneRecord (c .counts)) (effectBranch (c .branch) (field (now (p .entry)) 1 2)) (effectTally (c .tally) (judgedIn (now (facts .entry)) (c .branch .kind) (now (p .entry)) .judged))) ⌝ }
-    ensures { λ r. ⌜ (Thresholds (now (table .entry)) → RowsReached (now (rows .entry)) → now (sums .exit) ≡ store 256 (now (sums .entry)) (field (now (p .entry)) 1 2) (rowAfter (rowOf (now (sums .entry)) (now (margins .entry)) (now (facts .entry)) (field (now (p .entry)) 1 2)) (c .branch) (judgedIn (now (facts .entry)) (c .branch .kind) (now (p .entry)) .chance) .sum)) ⌝ }
-    ensures { λ r. ⌜ (Thresholds (now (table .entry)) → RowsReached (now (rows .entry)) → now (margins .exit) ≡ store 256 (now (margins .entry)) (field (now (p .entry)) 1 2) (rowAfter (rowOf (now (sums .entry)) (now (margins .entry)) (now (facts .entry)) (field (now (p .entry)) 1 2)) (c .branch) (judgedIn (now (facts .entry)) (c .branch .kind) (now (p .entry)) .chance) .margin)) ⌝ }
-    ensures { λ r. ⌜ (Thresholds (now (table .entry)) → RowsReached (now (rows .entry)) → now (facts .exit) ≡ store 256 (now (facts .entry)) (field (now (p .entry)) 1 2) (rowAfter (rowOf (now (sums .entry)) (now (margins .entry)) (now (facts .entry)) (field (now (p .entry)) 1 2)) (c .branch) (judgedIn (now (facts .entry)) (c .branch .kind) (now (p .entry)) .chance) .facts)) ⌝ }
-{
-    let t = decoding::half_at_1(p);
-    let b = c.branch;
-    let judged = add_effect(table, rows, b, p, sums, margins, facts);
-    counting::core_effect(c, t, judged)
 }

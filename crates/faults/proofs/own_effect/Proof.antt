@@ -17,7 +17,7 @@ effect-fault-requires c κs = search needs
 
 returns : tie.Need-returns
 returns c =
-    let b = c .before .before .before in
+    let b = c .before in
     rw (b .before .before .half-at-1 .ensures, b .before .word-at-3 .ensures, b .half-at-7 .ensures) at (c .effect-fault .ensures)
 
 pub own-effect-spec : {M : Type 1} → statement M

@@ -1,8 +1,8 @@
--- `counting::tallies::count_unjudged` meets its contract, case by case. Assumes nothing.
+-- `counting::count_unjudged` meets its contract, case by case. Assumes nothing.
 use native.Mathlib.Omega.{arith}
 use borrow.Author.Needs.{needs}
-use Rattle.counting.proofs.tallies.count_unjudged.Statement.{statement}
-use Rattle.counting.proofs.tallies.count_unjudged.Tie as tie
+use Rattle.counting.proofs.count_unjudged.Statement.{statement}
+use Rattle.counting.proofs.count_unjudged.Tie as tie
 
 returns : tie.Need-returns
 returns c = rw (c .if1 .taken) (omega arith)

@@ -1,0 +1,129 @@
+-- `effects::take_effects` meets its contract: each turn takes an effect more. Assumes nothing.
+use mathlib.Core.Path.{_≡_, refl, sym, _∙_, ap}
+use mathlib.Core.Bool.{true}
+use Prim.Native.Nat.{ℕ, _-_, _*_, _<_, _≤_}
+use native.Mathlib.Omega.{arith}
+use lib.ListN.{drop}
+use Rattle.log2.specs.Logarithm.{Thresholds}
+use Rattle.probit.specs.Table.{RowsReached}
+use Rattle.effects.specs.Effects.{Figures, figures, afterEffects, sound}
+use Rattle.effects.proofs.Laws.{effects-none, effects-next, effect-parts, sound-at, sound-more}
+use borrow.Author.Needs.{needs}
+use Rattle.effects.proofs.take_effects.Statement.{statement}
+use Rattle.effects.proofs.take_effects.Tie as tie
+
+abbrev Inv-loop : tie.InvT-loop
+Inv-loop table rows b targets most before bytes sums₀ margins₀ facts₀ top count₀ next₀ unjudged₀ sums margins facts count next unjudged =
+    (count ≤ top)
+    × (Thresholds table → RowsReached rows → figures next unjudged sums margins facts ≡ afterEffects b (figures (b .next) before sums₀ margins₀ facts₀) bytes count)
+    × (Thresholds table → RowsReached rows → (i : ℕ) → i < count → sound targets (b .kind) (afterEffects b (figures (b .next) before sums₀ margins₀ facts₀) bytes i .next) (drop (i * 9) bytes) ≡ true)
+
+abbrev μ-loop : tie.MeasureT-loop
+μ-loop table rows b targets most before bytes sums₀ margins₀ facts₀ top count₀ next₀ unjudged₀ sums margins facts count next unjudged = top - count
+
+room-requires : tie.Need-room-requires Inv-loop μ-loop
+room-requires c κs = search needs
+
+least-requires : tie.Need-least-requires Inv-loop μ-loop
+least-requires c κs = search needs
+
+loop-holds : tie.Need-loop-holds Inv-loop μ-loop
+loop-holds c = (omega arith, λ h q. effects-none _ _ _, λ h q i w. let z : ⊥ = omega arith in absurd z)
+
+mul-at : tie.Need-mul-at Inv-loop μ-loop
+mul-at c = let l = c .before .before in omega (arith, c .loop-test .taken, l .least .ensures, l .before .room .ensures, l .before .before .before .good)
+
+add-p : tie.Need-add-p Inv-loop μ-loop
+add-p c = let l = c .before .before in omega (arith, c .loop-test .taken, l .least .ensures, l .before .room .ensures, l .before .before .before .good)
+
+sub-p : tie.Need-sub-p Inv-loop μ-loop
+sub-p c = omega arith
+
+part-p-start : tie.Need-part-p-start Inv-loop μ-loop
+part-p-start c = omega arith
+
+part-p-end : tie.Need-part-p-end Inv-loop μ-loop
+part-p-end c = let l = c .before .before in omega (arith, c .loop-test .taken, l .least .ensures, l .before .room .ensures)
+
+sound-here-requires : tie.Need-sound-here-requires Inv-loop μ-loop
+sound-here-requires c κs = search needs
+
+add-effect-requires : tie.Need-add-effect-requires Inv-loop μ-loop
+add-effect-requires c κs = search needs
+
+next-after-requires : tie.Need-next-after-requires Inv-loop μ-loop
+next-after-requires c κs = search needs
+
+count-unjudged-requires : tie.Need-count-unjudged-requires Inv-loop μ-loop
+count-unjudged-requires c κs = search needs
+
+add-count : tie.Need-add-count Inv-loop μ-loop
+add-count c =
+    let i = c .before .before .before .before .before .before .before .before .before in
+    let l = i .before .before in
+    omega (arith, i .loop-test .taken, l .least .ensures, l .before .room .ensures, l .before .before .before .good)
+
+loop-less : tie.Need-loop-less Inv-loop μ-loop
+loop-less c = let i = c .before .before .before .before .before .before .before .before .before in omega (arith, i .loop-test .taken)
+
+loop-again : tie.Need-loop-again Inv-loop μ-loop
+loop-again c =
+    let n = c .before in
+    let a = n .before in
+    let t = a .before .before .before .before in
+    let s = t .before in
+    let i = s .before .before in
+    let v = i .before .loop in
+    let g = i .before .before .before .before .before .args in
+    let e = a .add-effect .ensures in (
+      omega (arith, i .loop-test .taken),
+      λ h q.
+          effects-next _ _ _ _ (g .bytes .now) (v .count) (v .inv .1 h q)
+          (effect-parts _ _ _ _ _ _ _ _ _ (n .next-after .ensures) (c .count-unjudged .ensures) (e .0 h q) (e .1 .0 h q) (e .1 .1 .0 h q) (e .1 .1 .1 h q)),
+      λ h q.
+          sound-more (g .targets) (g .b) _ (g .bytes .now) (v .count) (v .inv .2 h q)
+          (ap (λ (x : Figures). sound (g .targets) (g .b .kind) (x .next) (drop (v .count * 9) (g .bytes .now))) (sym (v .inv .1 h q)) ∙ sym (sound-at _ _ _ (g .bytes .now) (v .count * 9)) ∙ sym (s .sound-here .ensures) ∙ t .if1 .taken),
+    )
+
+returns : tie.Need-returns Inv-loop μ-loop
+returns c =
+    let s = c .before in
+    let i = s .before .before in
+    let v = i .before .loop in
+    let l = i .before .before in
+    let g = l .before .before .before .args in (
+      omega (arith, i .loop-test .taken, l .least .ensures, l .before .room .ensures),
+      (v .inv .1, (v .inv .2, λ w. sym (sound-at _ _ _ (g .bytes .now) (v .count * 9)) ∙ sym (s .sound-here .ensures) ∙ c .if1 .left)),
+    )
+
+returns-2 : tie.Need-returns-2 Inv-loop μ-loop
+returns-2 c =
+    let v = c .before .loop in
+    let l = c .before .before in (
+      omega (arith, v .inv .0, l .least .ensures, l .before .room .ensures),
+      (v .inv .1, (v .inv .2, λ w. let z : ⊥ = omega (arith, w, c .loop-test .left, l .least .ensures, l .before .room .ensures) in absurd z)),
+    )
+
+pub take-effects-spec : {M : Type 1} → statement M
+take-effects-spec =
+    tie.close
+    (tie.spec
+    Inv-loop
+    μ-loop
+    room-requires
+    least-requires
+    loop-holds
+    mul-at
+    add-p
+    sub-p
+    part-p-start
+    part-p-end
+    sound-here-requires
+    add-effect-requires
+    next-after-requires
+    count-unjudged-requires
+    add-count
+    loop-less
+    loop-again
+    returns
+    returns-2)

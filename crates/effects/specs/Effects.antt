@@ -1,0 +1,42 @@
+-- Effects of one outcome, taken one after the other: the machine's steps on what they change. Assumes nothing.
+use mathlib.Core.Bool.{Bool, true, false}
+use mathlib.Core.List.{List}
+use Prim.Native.Nat.{ℕ, zero, suc, _+_, _*_}
+use lib.ListN.{getD, drop}
+use Rattle.numeric.specs.Choice.{pick, ifEq}
+use Rattle.state.specs.declared.Branch.{Branch}
+use Rattle.model.specs.Faults.{effectFault}
+use Rattle.model.specs.Verdict.{field}
+use Rattle.model.specs.Machine.{upTo, most32, store, rowOf, rowAfter}
+use Rattle.targets.specs.Judging.{judgedIn}
+
+-- the least target that the next effect may name, the effects so far that no rule judged, and the figures of the targets
+pub record Figures : Type 0 where
+  pub next : ℕ
+  pub unjudged : ℕ
+  pub sums : List ℕ
+  pub margins : List ℕ
+  pub facts : List ℕ
+
+abbrev pub figures : ℕ → ℕ → List ℕ → List ℕ → List ℕ → Figures
+figures x u s m f = record { next = x; unjudged = u; sums = s; margins = m; facts = f }
+
+-- after the effect that some bytes begin with
+unfoldable pub afterEffect : Branch → Figures → List ℕ → Figures
+afterEffect b g p =
+    figures (field p 1 2 + 1) (upTo most32 (g .unjudged) (pick (judgedIn (g .facts) (b .kind) p .judged) 0 1))
+    (store 256 (g .sums) (field p 1 2) (rowAfter (rowOf (g .sums) (g .margins) (g .facts) (field p 1 2)) b (judgedIn (g .facts) (b .kind) p .chance) .sum))
+    (store 256 (g .margins) (field p 1 2) (rowAfter (rowOf (g .sums) (g .margins) (g .facts) (field p 1 2)) b (judgedIn (g .facts) (b .kind) p .chance) .margin))
+    (store 256 (g .facts) (field p 1 2) (rowAfter (rowOf (g .sums) (g .margins) (g .facts) (field p 1 2)) b (judgedIn (g .facts) (b .kind) p .chance) .facts))
+
+-- after the first n effects of some bytes; an effect has nine
+unfoldable pub afterEffects : Branch → Figures → List ℕ → ℕ → Figures
+afterEffects b g l zero = g
+afterEffects b g l (suc n) = afterEffect b (afterEffects b g l n) (drop (n * 9) l)
+
+-- whether some bytes begin with an effect that has no fault of its own
+unfoldable pub sound : ℕ → ℕ → ℕ → List ℕ → Bool
+sound targets kind next p =
+    ifEq (getD p 0 0) 6
+    (ifEq (effectFault targets kind next (field p 1 2) (field p 3 4) (field p 7 2)) 0 true false)
+    false

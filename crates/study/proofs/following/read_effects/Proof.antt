@@ -1,0 +1,126 @@
+-- `study::following::read_effects` meets its contract: the first effect is refused, or it is taken with those that follow it. Assumes nothing.
+use mathlib.Core.Path.{_≡_, refl, sym, _∙_, ap}
+use mathlib.Core.List.{List}
+use Prim.Native.Nat.{ℕ, _-_}
+use native.Mathlib.Omega.{arith}
+use lib.ListN.{replicate}
+use Rattle.model.specs.Machine.{State, state, ownFaultIn, withReading}
+use Rattle.decoding.proofs.DecodeLaws.{decode-effect}
+use Rattle.effects.specs.Effects.{Figures, figures, afterEffects}
+use Rattle.effects.proofs.Laws.{effects-none}
+use Rattle.study.specs.Following.{coreAfter}
+use Rattle.study.specs.Spans.{lengthOf}
+use Rattle.study.proofs.RecordLaws.{place-refused, own-refused}
+use Rattle.study.proofs.SpanLaws.{effect-length, read-alone, records-alone}
+use Rattle.study.proofs.FollowLaws.{Free, begin, effects-read, unsound-fault}
+use borrow.Author.Needs.{needs}
+use Rattle.study.proofs.following.read_effects.Statement.{statement}
+use Rattle.study.proofs.following.read_effects.Tie as tie
+
+place-fault-requires : tie.Need-place-fault-requires
+place-fault-requires c κs = search needs
+
+refused-requires : tie.Need-refused-requires
+refused-requires c κs = search needs
+
+returns : tie.Need-returns
+unfolding withReading
+returns c =
+    let f = c .before .before in
+    let s = f .before .before in
+    let l = s .args .bytes .now in
+    let n : 9 ≡ lengthOf l = sym (effect-length l (s .pre .3)) in (
+      records-alone l 9 n (s .pre .2),
+      λ q k. read-alone _ _ q k _ _ _ l 9 n (rw (decode-effect l (s .pre .3)) (place-refused _ _ _ (f .place-fault .ensures) (c .before .if1 .taken) (rw (c .refused .ensures) refl))),
+    )
+
+most-effects-requires : tie.Need-most-effects-requires
+most-effects-requires c κs = search needs
+
+take-effects-requires : tie.Need-take-effects-requires
+take-effects-requires c κs = search needs
+
+own-effect-requires : tie.Need-own-effect-requires
+own-effect-requires c κs = search needs
+
+refused-requires-2 : tie.Need-refused-requires-2
+refused-requires-2 c κs = search needs
+
+returns-2 : tie.Need-returns-2
+unfolding ownFaultIn withReading
+returns-2 c =
+    let none = c .before .before .if2 .taken in
+    let t = c .before .before .before .before in
+    let m = t .before .before .before .before in
+    let i = m .before .before .before .before in
+    let f = i .before in
+    let s = f .before .before in
+    let g = s .args in
+    let l = g .bytes .now in
+    let n : 9 ≡ lengthOf l = sym (effect-length l (s .pre .3)) in
+    let start : Figures = begin (g .c) (g .sums .now) (g .margins .now) (g .facts .now) l in
+    let e = t .take-effects .ensures in
+    let same = (rw none at (e .1 .0 (s .pre .0) (s .pre .1))) ∙ sym (effects-none (g .c .branch) start l) in
+    let u = rw (none, ap (λ (x : Figures). x .next) same) at (e .1 .1 .1 (omega (arith, none, m .most-effects .ensures .0, s .pre .2))) in (
+      records-alone l 9 n (s .pre .2),
+      λ q k.
+          read-alone _ _ q k _ _ _ l 9 n
+          (rw (ap (λ (x : Figures). x .sums) same, ap (λ (x : Figures). x .margins) same, ap (λ (x : Figures). x .facts) same, decode-effect l (s .pre .3))
+          (own-refused _ _ _ _ (f .place-fault .ensures) (i .if1 .left) (c .before .own-effect .ensures) (λ z. unsound-fault _ _ _ l u (s .pre .3) (sym (c .before .own-effect .ensures) ∙ z)) (rw (c .refused2 .ensures) refl))),
+    )
+
+cast-core-after : tie.Need-cast-core-after
+cast-core-after c = search needs
+
+core-after-requires : tie.Need-core-after-requires
+core-after-requires c κs =
+    let t = c .before .before .before in
+    let m = t .before .before .before .before in
+    let some = c .before .if2 .left in
+    (omega (arith, some), λ w. let b = m .most-effects .ensures .1 (omega (arith, w, t .take-effects .ensures .0)) in omega (arith, b .2, t .take-effects .ensures .0))
+
+mul-t23 : tie.Need-mul-t23
+mul-t23 c = search needs
+
+returns-3 : tie.Need-returns-3
+returns-3 c =
+    let a = c .before in
+    let t = a .before .before .before .before in
+    let m = t .before .before .before .before in
+    let i = m .before .before .before .before in
+    let f = i .before in
+    let s = f .before .before in
+    let g = s .args in
+    let e = t .take-effects .ensures in
+    let n = t .take-effects .result .count in
+    let some = a .before .before .if2 .left in
+    let free : Free (g .c) (g .sums .now) (g .margins .now) (g .facts .now) (g .bytes .now) n =
+    record {
+      placed = sym (i .if1 .left) ∙ f .place-fault .ensures;
+      room = omega (arith, some, e .0);
+      more = λ w. let b = m .most-effects .ensures .1 (omega (arith, w, e .0)) in (omega (arith, b .0, e .0), omega (arith, b .1, e .0), omega (arith, b .2, e .0));
+      sounds = e .1 .1 .0 (s .pre .0) (s .pre .1);
+    } in
+    let r = effects-read (g .c) (g .sums .now) (g .margins .now) (g .facts .now) (g .bytes .now) (n - 1) n (omega (arith, some)) free in (
+      r .0,
+      λ q k.
+          rw (a .core-after .ensures)
+          (ap (λ (x : Figures). state (coreAfter (g .c) n (x .next) (x .unjudged)) (replicate 16 0) k (x .sums) (x .margins) (x .facts)) (e .1 .0 (s .pre .0) (s .pre .1)) ∙ r .1 q k),
+    )
+
+pub read-effects-spec : {M : Type 1} → statement M
+read-effects-spec =
+    tie.close
+    (tie.spec
+    place-fault-requires
+    refused-requires
+    returns
+    most-effects-requires
+    take-effects-requires
+    own-effect-requires
+    refused-requires-2
+    returns-2
+    cast-core-after
+    core-after-requires
+    mul-t23
+    returns-3)

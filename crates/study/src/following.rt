@@ -1,0 +1,171 @@
+// Effects that follow one another, read at once.
+ghost use mathlib.Core.Path.{_≡_};
+ghost use mathlib.Core.List.{List};
+ghost use Prim.Native.Nat.{ℕ, _+_, _-_, _*_, _<_, _≤_};
+ghost use lib.ListN.{length, getD, replicate};
+ghost use Rattle.log2.specs.Logarithm.{Thresholds};
+ghost use Rattle.probit.specs.Table.{RowsReached};
+ghost use Rattle.model.specs.Bounds.{mostRecords};
+ghost use Rattle.model.specs.Machine.{most64, state};
+ghost use Rattle.study.specs.Following.{readingAfter, coreAfter};
+ghost use Rattle.study.specs.Spans.{afterFirst, Records};
+use crate::Study;
+use crate::bounds::place_fault;
+use crate::records::Run;
+use crate::records::refused;
+use state::Branch;
+use state::Core;
+use state::Counts;
+use state::Reading;
+use state::Tally;
+
+// How many effects the outcome, the number of records and the places that can be counted allow from an entered one on: at least that one.
+fn most_effects(c: Core) -> u32
+    ensures { λ r. ⌜ 0 < r ⌝ }
+    ensures { λ r. ⌜ (1 < r → (r ≤ c .branch .left) × (c .counts .records + r ≤ mostRecords) × (c .reading .place + r * 9 ≤ most64)) ⌝ }
+{
+    let h = c.reading;
+    let k = c.counts;
+    let b = c.branch;
+    if 18_446_744_073_708_551_615 < h.place {
+        return 1;
+    }
+    if Study::MOST_RECORDS <= k.records {
+        return 1;
+    }
+    if b.left == 0 {
+        return 1;
+    }
+    let left = b.left as u32;
+    let spare = Study::MOST_RECORDS - k.records;
+    if left <= spare { left } else { spare }
+}
+
+// Effects still to come after some.
+fn still_left(left: u16, count: u32) -> u16
+    ensures { λ r. ⌜ r ≡ left - count ⌝ }
+{
+    let wide = left as u32;
+    if count <= wide {
+        return (wide - count) as u16;
+    }
+    0
+}
+
+fn reading_after(h: Reading, count: u32) -> Reading
+    requires { ⌜ (0 < count) × (1 < count → h .place + count * 9 ≤ most64) ⌝ }
+    ensures { λ r. ⌜ r ≡ readingAfter h count ⌝ }
+{
+    if count == 1 {
+        return Reading {
+            place: h.place,
+            start: h.start,
+            at: 0,
+            phase: 0,
+            have: 0,
+            number: 0,
+        };
+    }
+    let last = h.place + ((count - 2) as u64) * 9;
+    Reading {
+        place: last + 9,
+        start: last,
+        at: 0,
+        phase: 0,
+        have: 0,
+        number: 0,
+    }
+}
+
+// All but the arrays after some effects.
+fn core_after(c: Core, count: u32, next: u32, unjudged: u32) -> Core
+    requires { ⌜ (0 < count) × (1 < count → c .reading .place + count * 9 ≤ most64) ⌝ }
+    ensures { λ r. ⌜ r ≡ coreAfter c count next unjudged ⌝ }
+{
+    let k = c.counts;
+    let b = c.branch;
+    let y = c.tally;
+    let h = reading_after(c.reading, count);
+    let records = numeric::add32(k.records, count);
+    let left = still_left(b.left, count);
+    Core {
+        reading: h,
+        counts: Counts {
+            records: records,
+            targets: k.targets,
+            scenarios: k.scenarios,
+            last: k.last,
+            leaks: k.leaks,
+        },
+        branch: Branch {
+            height: b.height,
+            left: left,
+            next: next,
+            leak: b.leak,
+            kind: b.kind,
+            frequency: b.frequency,
+            above: b.above,
+        },
+        tally: Tally {
+            study: y.study,
+            kind0: y.kind0,
+            kind1: y.kind1,
+            kind2: y.kind2,
+            kind3: y.kind3,
+            kind4: y.kind4,
+            kind5: y.kind5,
+            unjudged: unjudged,
+        },
+    }
+}
+
+// The effect that the bytes begin with, which has been entered, and the effects that follow it.
+pub(crate) fn read_effects(
+    table: &[u32; 256],
+    rows: &[u8; 544],
+    c: Core,
+    bytes: &[u8],
+    sums: &mut [u64; 256],
+    margins: &mut [u32; 256],
+    facts: &mut [u64; 256],
+) -> Run
+    requires { ⌜ Thresholds (now table) × RowsReached (now rows) × (16 ≤ length (now bytes)) × (getD (now bytes) 0 0 ≡ 6) ⌝ }
+    ensures { λ r. ⌜ Records (now (bytes .entry)) (r .at) ⌝ }
+    ensures { λ r. ⌜ ((q k : List ℕ) → state (r .core) (replicate 16 0) k (now (sums .exit)) (now (margins .exit)) (now (facts .exit)) ≡ afterFirst (state c q k (now (sums .entry)) (now (margins .entry)) (now (facts .entry))) (now (bytes .entry)) (r .at)) ⌝ }
+{
+    let misplaced = place_fault(c, 6);
+    if misplaced != 0 {
+        return Run {
+            core: refused(c, misplaced),
+            at: 9,
+        };
+    }
+    let k = c.counts;
+    let b = c.branch;
+    let y = c.tally;
+    let most = most_effects(c);
+    let run = effects::take_effects(
+        table,
+        rows,
+        b,
+        k.targets,
+        most,
+        y.unjudged,
+        bytes,
+        sums,
+        margins,
+        facts,
+    );
+    if run.count == 0 {
+        let own = faults::own_effect(k.targets, b.kind, b.next, bytes);
+        return Run {
+            core: refused(c, own),
+            at: 9,
+        };
+    }
+    let after = core_after(c, run.count as u32, run.next, run.unjudged);
+    Run {
+        core: after,
+        at: run.count * 9,
+    }
+}
