@@ -4,8 +4,7 @@ mod counts;
 mod tallies;
 
 ghost use mathlib.Core.Path.{_≡_};
-ghost use Rattle.numeric.specs.Choice.{pick};
-ghost use Rattle.model.specs.Machine.{upTo, most32, core, taken, oneRecord, oneTarget, oneLeak, leakBranch, branchedBranch, outcomeBranch, studyTally, outcomeTally, frequencyOf};
+ghost use Rattle.model.specs.Machine.{core, taken, oneRecord, oneTarget, oneLeak, leakBranch, branchedBranch, outcomeBranch, studyTally, outcomeTally, frequencyOf};
 use branches::enter_branching;
 use branches::enter_leak;
 use branches::enter_outcome;
@@ -106,14 +105,4 @@ pub fn core_closing(c: Core) -> Core
         branch: b,
         tally: y,
     }
-}
-
-// The effects that no rule judged: one more, or as many as before.
-pub fn count_unjudged(unjudged: u32, judged: bool) -> u32
-    ensures { λ r. ⌜ r ≡ upTo most32 unjudged (pick judged 0 1) ⌝ }
-{
-    if judged {
-        return unjudged;
-    }
-    numeric::add32(unjudged, 1)
 }

@@ -1,6 +1,6 @@
 -- Laws of effects taken one after the other. Assumes nothing.
 use mathlib.Core.Path.{_≡_, refl, _∙_, ap}
-use mathlib.Core.Bool.{Bool, true}
+use mathlib.Core.Bool.{Bool, true, false}
 use mathlib.Core.List.{List}
 use Prim.Native.Nat.{ℕ, zero, suc, _+_, _-_, _*_, _<_, _≤_}
 use native.Mathlib.Decide.{ℕ-discrete}
@@ -73,3 +73,11 @@ sound-more targets b g l n h e i w = go (ℕ-discrete i n)
     go : Dec (i ≡ n) → sound targets (b .kind) (afterEffects b g l i .next) (drop (i * 9) l) ≡ true
     go (yes q) = rw q e
     go (no q) = h i (omega arith)
+
+-- effects that no rule judged, one more or as many as before
+pub more-missed : (b m x y : ℕ) → y ≡ m + x → upTo most32 b y ≡ upTo most32 (upTo most32 b m) x
+more-missed b m x y e = omega arith
+
+pub missed-within : (m n : ℕ) (j : Bool) (y : ℕ) → m ≤ n → y ≡ m + pick j 0 1 → y ≤ n + 1
+missed-within m n true y h e = omega arith
+missed-within m n false y h e = omega arith

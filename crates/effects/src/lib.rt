@@ -5,7 +5,9 @@ ghost use Prim.Native.Nat.{ℕ, _+_, _-_, _*_, _/_, _<_, _≤_, min};
 ghost use lib.ListN.{length, drop};
 ghost use Rattle.log2.specs.Logarithm.{Thresholds};
 ghost use Rattle.probit.specs.Table.{RowsReached};
+ghost use Rattle.numeric.specs.Choice.{pick};
 ghost use Rattle.model.specs.Verdict.{field};
+ghost use Rattle.model.specs.Machine.{upTo, most32};
 ghost use Rattle.effects.specs.Effects.{figures, afterEffects, sound};
 use state::Branch;
 
@@ -52,6 +54,25 @@ fn next_after(p: &[u8]) -> u32
     (decoding::half_at_1(p) as u32) + 1
 }
 
+// The effects of this outcome that no rule judged: one more, or as many as before.
+fn missed_after(missed: usize, judged: bool) -> usize
+    requires { ⌜ missed < 18446744073709551615 ⌝ }
+    ensures { λ r. ⌜ r ≡ missed + pick judged 0 1 ⌝ }
+{
+    if judged {
+        return missed;
+    }
+    missed + 1
+}
+
+// Those of the study.
+fn unjudged_after(before: u32, missed: usize) -> u32
+    requires { ⌜ missed ≤ most32 ⌝ }
+    ensures { λ r. ⌜ r ≡ upTo most32 before missed ⌝ }
+{
+    numeric::add32(before, missed as u32)
+}
+
 // Takes the effects that the bytes begin with, in an outcome's branch, up to the first that is unsound.
 pub fn take_effects(
     table: &[u32; 256],
@@ -73,26 +94,26 @@ pub fn take_effects(
     let top = least(most as usize, room(bytes.len()));
     let mut count: usize = 0;
     let mut next = b.next;
-    let mut unjudged = before;
+    let mut missed: usize = 0;
     while count < top {
         let at = count * 9;
         let p = &bytes[at..at + 16];
         if sound_here(targets, b.kind, next, p) {
             let judged = targets::add_effect(table, rows, b, p, sums, margins, facts);
             next = next_after(p);
-            unjudged = counting::count_unjudged(unjudged, judged);
+            missed = missed_after(missed, judged);
             count += 1;
         } else {
             return Taken {
                 count: count,
                 next: next,
-                unjudged: unjudged,
+                unjudged: unjudged_after(before, missed),
             };
         }
     }
     Taken {
         count: count,
         next: next,
-        unjudged: unjudged,
+        unjudged: unjudged_after(before, missed),
     }
 }

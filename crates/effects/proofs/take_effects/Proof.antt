@@ -6,20 +6,21 @@ use native.Mathlib.Omega.{arith}
 use lib.ListN.{drop}
 use Rattle.log2.specs.Logarithm.{Thresholds}
 use Rattle.probit.specs.Table.{RowsReached}
+use Rattle.model.specs.Machine.{upTo, most32}
 use Rattle.effects.specs.Effects.{Figures, figures, afterEffects, sound}
-use Rattle.effects.proofs.Laws.{effects-none, effects-next, effect-parts, sound-at, sound-more}
+use Rattle.effects.proofs.Laws.{effects-none, effects-next, effect-parts, sound-at, sound-more, missed-within, more-missed}
 use borrow.Author.Needs.{needs}
 use Rattle.effects.proofs.take_effects.Statement.{statement}
 use Rattle.effects.proofs.take_effects.Tie as tie
 
 abbrev Inv-loop : tie.InvT-loop
-Inv-loop table rows b targets most before bytes sums₀ margins₀ facts₀ top count₀ next₀ unjudged₀ sums margins facts count next unjudged =
-    (count ≤ top)
-    × (Thresholds table → RowsReached rows → figures next unjudged sums margins facts ≡ afterEffects b (figures (b .next) before sums₀ margins₀ facts₀) bytes count)
+Inv-loop table rows b targets most before bytes sums₀ margins₀ facts₀ top count₀ next₀ missed₀ sums margins facts count next missed =
+    (count ≤ top) × (missed ≤ count)
+    × (Thresholds table → RowsReached rows → figures next (upTo most32 before missed) sums margins facts ≡ afterEffects b (figures (b .next) before sums₀ margins₀ facts₀) bytes count)
     × (Thresholds table → RowsReached rows → (i : ℕ) → i < count → sound targets (b .kind) (afterEffects b (figures (b .next) before sums₀ margins₀ facts₀) bytes i .next) (drop (i * 9) bytes) ≡ true)
 
 abbrev μ-loop : tie.MeasureT-loop
-μ-loop table rows b targets most before bytes sums₀ margins₀ facts₀ top count₀ next₀ unjudged₀ sums margins facts count next unjudged = top - count
+μ-loop table rows b targets most before bytes sums₀ margins₀ facts₀ top count₀ next₀ missed₀ sums margins facts count next missed = top - count
 
 room-requires : tie.Need-room-requires Inv-loop μ-loop
 room-requires c κs = search needs
@@ -28,7 +29,10 @@ least-requires : tie.Need-least-requires Inv-loop μ-loop
 least-requires c κs = search needs
 
 loop-holds : tie.Need-loop-holds Inv-loop μ-loop
-loop-holds c = (omega arith, λ h q. effects-none _ _ _, λ h q i w. let z : ⊥ = omega arith in absurd z)
+loop-holds c =
+    let s = c .before .before .before in
+    let e : upTo most32 (s .args .before) 0 ≡ s .args .before = omega (arith, s .good) in
+    (omega arith, omega arith, λ h q. rw e (effects-none _ _ _), λ h q i w. let z : ⊥ = omega arith in absurd z)
 
 mul-at : tie.Need-mul-at Inv-loop μ-loop
 mul-at c = let l = c .before .before in omega (arith, c .loop-test .taken, l .least .ensures, l .before .room .ensures, l .before .before .before .good)
@@ -54,8 +58,11 @@ add-effect-requires c κs = search needs
 next-after-requires : tie.Need-next-after-requires Inv-loop μ-loop
 next-after-requires c κs = search needs
 
-count-unjudged-requires : tie.Need-count-unjudged-requires Inv-loop μ-loop
-count-unjudged-requires c κs = search needs
+missed-after-requires : tie.Need-missed-after-requires Inv-loop μ-loop
+missed-after-requires c κs =
+    let i = c .before .before .before .before .before .before .before .before in
+    let l = i .before .before in
+    omega (arith, i .before .loop .inv .1, i .loop-test .taken, l .least .ensures, l .before .room .ensures, l .before .before .before .good)
 
 add-count : tie.Need-add-count Inv-loop μ-loop
 add-count c =
@@ -77,31 +84,50 @@ loop-again c =
     let g = i .before .before .before .before .before .args in
     let e = a .add-effect .ensures in (
       omega (arith, i .loop-test .taken),
+      missed-within _ _ (a .add-effect .result) _ (v .inv .1) (c .missed-after .ensures),
       λ h q.
-          effects-next _ _ _ _ (g .bytes .now) (v .count) (v .inv .1 h q)
-          (effect-parts _ _ _ _ _ _ _ _ _ (n .next-after .ensures) (c .count-unjudged .ensures) (e .0 h q) (e .1 .0 h q) (e .1 .1 .0 h q) (e .1 .1 .1 h q)),
+          effects-next _ _ _ _ (g .bytes .now) (v .count) (v .inv .2 h q)
+          (effect-parts _ _ _ _ _ _ _ _ _ (n .next-after .ensures) (more-missed (g .before) (v .missed) _ _ (c .missed-after .ensures)) (e .0 h q) (e .1 .0 h q) (e .1 .1 .0 h q) (e .1 .1 .1 h q)),
       λ h q.
-          sound-more (g .targets) (g .b) _ (g .bytes .now) (v .count) (v .inv .2 h q)
-          (ap (λ (x : Figures). sound (g .targets) (g .b .kind) (x .next) (drop (v .count * 9) (g .bytes .now))) (sym (v .inv .1 h q)) ∙ sym (sound-at _ _ _ (g .bytes .now) (v .count * 9)) ∙ sym (s .sound-here .ensures) ∙ t .if1 .taken),
+          sound-more (g .targets) (g .b) _ (g .bytes .now) (v .count) (v .inv .3 h q)
+          (ap (λ (x : Figures). sound (g .targets) (g .b .kind) (x .next) (drop (v .count * 9) (g .bytes .now))) (sym (v .inv .2 h q)) ∙ sym (sound-at _ _ _ (g .bytes .now) (v .count * 9)) ∙ sym (s .sound-here .ensures) ∙ t .if1 .taken),
     )
+
+unjudged-after-requires : tie.Need-unjudged-after-requires Inv-loop μ-loop
+unjudged-after-requires c κs =
+    let i = c .before .before .before in
+    let l = i .before .before in
+    omega (arith, i .before .loop .inv .0, i .before .loop .inv .1, l .least .ensures, l .before .before .before .good)
 
 returns : tie.Need-returns Inv-loop μ-loop
 returns c =
-    let s = c .before in
+    let s = c .before .before in
     let i = s .before .before in
     let v = i .before .loop in
     let l = i .before .before in
     let g = l .before .before .before .args in (
       omega (arith, i .loop-test .taken, l .least .ensures, l .before .room .ensures),
-      (v .inv .1, (v .inv .2, λ w. sym (sound-at _ _ _ (g .bytes .now) (v .count * 9)) ∙ sym (s .sound-here .ensures) ∙ c .if1 .left)),
+      (
+        λ h q. rw (c .unjudged-after .ensures) (v .inv .2 h q),
+        (v .inv .3, λ w. sym (sound-at _ _ _ (g .bytes .now) (v .count * 9)) ∙ sym (s .sound-here .ensures) ∙ c .before .if1 .left),
+      ),
     )
+
+unjudged-after-requires-2 : tie.Need-unjudged-after-requires-2 Inv-loop μ-loop
+unjudged-after-requires-2 c κs =
+    let v = c .before .loop in
+    let l = c .before .before in
+    omega (arith, v .inv .0, v .inv .1, l .least .ensures, l .before .before .before .good)
 
 returns-2 : tie.Need-returns-2 Inv-loop μ-loop
 returns-2 c =
-    let v = c .before .loop in
-    let l = c .before .before in (
+    let v = c .before .before .loop in
+    let l = c .before .before .before in (
       omega (arith, v .inv .0, l .least .ensures, l .before .room .ensures),
-      (v .inv .1, (v .inv .2, λ w. let z : ⊥ = omega (arith, w, c .loop-test .left, l .least .ensures, l .before .room .ensures) in absurd z)),
+      (
+        λ h q. rw (c .unjudged-after2 .ensures) (v .inv .2 h q),
+        (v .inv .3, λ w. let z : ⊥ = omega (arith, w, c .before .loop-test .left, l .least .ensures, l .before .room .ensures) in absurd z),
+      ),
     )
 
 pub take-effects-spec : {M : Type 1} → statement M
@@ -121,9 +147,11 @@ take-effects-spec =
     sound-here-requires
     add-effect-requires
     next-after-requires
-    count-unjudged-requires
+    missed-after-requires
     add-count
     loop-less
     loop-again
+    unjudged-after-requires
     returns
+    unjudged-after-requires-2
     returns-2)
