@@ -2,3 +2,4 @@ pub mod ViewLaws
 pub mod LoopLaws
 pub mod SpanLaws
 pub mod RecordLaws
+pub mod KindLaws

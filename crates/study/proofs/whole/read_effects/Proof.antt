@@ -5,9 +5,11 @@ use Prim.Native.Nat.{ℕ, _+_, _-_, _≤_}
 use native.Mathlib.Omega.{arith}
 use lib.ListN.{length, getD, drop, length-drop}
 use Rattle.model.specs.Machine.{state}
+use Rattle.counting.specs.Kinds.{withKinds}
 use Rattle.decoding.proofs.DecodeLaws.{decode-effect}
 use Rattle.study.specs.Spans.{Next, Records}
-use Rattle.study.proofs.SpanLaws.{Standing, Reached, standing-start, reached-start, rest, rest-is, one-read, records-alone, records-more, standing-next, reached-next, effect-length}
+use Rattle.study.proofs.SpanLaws.{Standing, Reached, standing-start, reached-start, rest, rest-is, records-alone, records-more, standing-next, reached-next, effect-length}
+use Rattle.study.proofs.KindLaws.{effect-read}
 use borrow.Author.Needs.{needs}
 use Rattle.study.proofs.whole.read_effects.Statement.{statement}
 use Rattle.study.proofs.whole.read_effects.Tie as tie
@@ -15,7 +17,7 @@ use Rattle.study.proofs.whole.read_effects.Tie as tie
 abbrev Inv-loop : tie.InvT-loop
 Inv-loop table rows bytes sums₀ margins₀ facts₀ core₀ at₀ sums margins facts core at =
     Standing bytes at × (getD (drop at bytes) 0 0 ≡ 6)
-    × ((q k : List ℕ) → Reached (state core₀ q k sums₀ margins₀ facts₀) (state core q k sums margins facts) bytes at)
+    × ((l q k : List ℕ) → Reached (state (withKinds core₀ l) q k sums₀ margins₀ facts₀) (state (withKinds core l) q k sums margins facts) bytes at)
 
 abbrev μ-loop : tie.MeasureT-loop
 μ-loop table rows bytes sums₀ margins₀ facts₀ core₀ at₀ sums margins facts core at = length bytes - at
@@ -33,7 +35,7 @@ next-at : (c : tie.Then1 Inv-loop μ-loop)
 next-at c = rw (rest-is (c .before .before .before .before .before .before .before .before .before .before .before .args .bytes .now) (c .before .before .before .before .before .before .before .before .before .loop .at + 9)) at (c .before .effect-here .ensures (c .if1 .taken))
 
 loop-holds : tie.Need-loop-holds Inv-loop μ-loop
-loop-holds c = (standing-start _ (c .before .pre .2), c .before .pre .3, λ q k. reached-start _ _)
+loop-holds c = (standing-start _ (c .before .pre .2), c .before .pre .3, λ x q k. reached-start _ _)
 
 sub-loop : tie.Need-sub-loop Inv-loop μ-loop
 sub-loop c = omega (arith, c .loop .inv .0 .room)
@@ -89,9 +91,9 @@ loop-again c =
     let r = records-at t in (
       standing-next _ l (v .at + 9) r (n .0),
       n .1,
-      λ q k.
+      λ x q k.
           let e = effect-length (drop (v .at) l) (v .inv .1) in
-          let a = rw e at (one-read _ _ _ q k _ _ _ k _ _ _ l (v .at) (v .inv .2 q k) (t .read-effect .ensures q k)) in
+          let a = rw e at (effect-read x _ _ _ q k _ _ _ k _ _ _ l (v .at) (v .inv .1) (v .inv .2 x q k) (t .read-effect .ensures q k)) in
           rw (c .entered .ensures, rest-is l (v .at + 9)) (reached-next _ _ q k _ _ _ l (v .at + 9) r (n .0) a),
     )
 
@@ -101,7 +103,7 @@ returns c =
     let v = t .before .before .before .before .before .before .loop in
     let l = t .before .before .before .before .before .before .before .before .args .bytes .now in
     let e = effect-length (drop (v .at) l) (v .inv .1) in
-    (records-at t, λ q k. rw e at (one-read _ _ _ q k _ _ _ k _ _ _ l (v .at) (v .inv .2 q k) (t .read-effect .ensures q k)))
+    (records-at t, λ x q k. rw e at (effect-read x _ _ _ q k _ _ _ k _ _ _ l (v .at) (v .inv .1) (v .inv .2 x q k) (t .read-effect .ensures q k)))
 
 returns-2 : tie.Need-returns-2 Inv-loop μ-loop
 returns-2 c = let z : ⊥ = omega (arith, c .loop-test .left, c .before .loop .inv .0 .room) in absurd z
