@@ -5,6 +5,7 @@ mod tallies;
 
 ghost use mathlib.Core.Path.{_≡_};
 ghost use Rattle.model.specs.Machine.{core, taken, oneRecord, oneTarget, oneLeak, leakBranch, branchedBranch, outcomeBranch, studyTally, outcomeTally, frequencyOf};
+ghost use Rattle.counting.specs.Kinds.{withKinds};
 use branches::enter_branching;
 use branches::enter_leak;
 use branches::enter_outcome;
@@ -13,8 +14,10 @@ use counts::count_record;
 use counts::count_target;
 use counts::take;
 use state::Core;
-use tallies::tally_outcome;
+use tallies::grow_kind;
+pub use tallies::kinds_of;
 use tallies::tally_study;
+use tallies::tally_with;
 
 pub fn core_opening(c: Core, number: u32) -> Core
     ensures { λ r. ⌜ r ≡ core (taken (c .reading) 0) (oneRecord (c .counts)) (c .branch) (studyTally (c .tally) number) ⌝ }
@@ -76,14 +79,15 @@ pub fn core_branching(c: Core) -> Core
     }
 }
 
-// The outcome takes the next tree, as it is packed.
-pub fn core_outcome(c: Core, tree: u64, kind: u8, effects: u16) -> Core
-    ensures { λ r. ⌜ r ≡ core (taken (c .reading) 0) (oneRecord (c .counts)) (outcomeBranch (c .branch) tree kind effects) (outcomeTally (c .tally) kind (frequencyOf tree)) ⌝ }
+// The outcome takes the next tree, as it is packed. The lent array has the totals of the kinds; those in the core are old.
+pub fn core_outcome(c: Core, tree: u64, kind: u8, effects: u16, kinds: &mut [u64; 6]) -> Core
+    ensures { λ r. ⌜ withKinds r (now (kinds .exit)) ≡ core (taken (c .reading) 0) (oneRecord (c .counts)) (outcomeBranch (c .branch) tree kind effects) (outcomeTally (withKinds c (now (kinds .entry)) .tally) kind (frequencyOf tree)) ⌝ }
 {
     let h = take(c.reading, 0);
     let k = count_record(c.counts);
     let b = enter_outcome(c.branch, tree, kind, effects);
-    let y = tally_outcome(c.tally, kind, tree / 16);
+    let y = c.tally;
+    grow_kind(kinds, kind, tree / 16);
     Core {
         reading: h,
         counts: k,
@@ -99,6 +103,22 @@ pub fn core_closing(c: Core) -> Core
     let k = count_record(c.counts);
     let b = c.branch;
     let y = c.tally;
+    Core {
+        reading: h,
+        counts: k,
+        branch: b,
+        tally: y,
+    }
+}
+
+// The core with the totals of the kinds from an array.
+pub fn with_kinds(c: Core, kinds: &[u64; 6]) -> Core
+    ensures { λ r. ⌜ r ≡ withKinds c (now (kinds .entry)) ⌝ }
+{
+    let h = c.reading;
+    let k = c.counts;
+    let b = c.branch;
+    let y = tally_with(c.tally, kinds);
     Core {
         reading: h,
         counts: k,

@@ -5,7 +5,8 @@ ghost use Prim.Native.Nat.{ℕ, _-_};
 ghost use lib.ListN.{length};
 ghost use Rattle.numeric.specs.Choice.{pick};
 ghost use Rattle.model.specs.Verdict.{decode};
-ghost use Rattle.model.specs.Machine.{state, store, recordRead, cleared, body, step};
+ghost use Rattle.state.specs.declared.Tally.{Tally};
+ghost use Rattle.model.specs.Machine.{core, state, store, recordRead, cleared, body, step};
 use crate::begin;
 use crate::core_reading;
 use crate::grow;
@@ -32,10 +33,10 @@ pub struct Entered {
     pub whole: bool,
 }
 
-// One byte more of a record that has begun.
+// One byte more of a record that has begun. The totals stay, whatever they are.
 fn enter_more(c: Core, b: u8, p: &mut [u8; 16]) -> Entered
     ensures { λ r. ⌜ length (now (p .exit)) ≡ length (now (p .entry)) ⌝ }
-    ensures { λ r. ⌜ ((k s m f : List ℕ) → body (state c (now (p .entry)) k s m f) b ≡ pick (r .whole) (cleared (recordRead (state (r .core) (now (p .exit)) k s m f) (decode (now (p .exit))))) (state (r .core) (now (p .exit)) k s m f)) ⌝ }
+    ensures { λ r. ⌜ ((g : Tally → Tally) (k s m f : List ℕ) → body (state (core (c .reading) (c .counts) (c .branch) (g (c .tally))) (now (p .entry)) k s m f) b ≡ pick (r .whole) (cleared (recordRead (state (core (r .core .reading) (r .core .counts) (r .core .branch) (g (r .core .tally))) (now (p .exit)) k s m f) (decode (now (p .exit))))) (state (core (r .core .reading) (r .core .counts) (r .core .branch) (g (r .core .tally))) (now (p .exit)) k s m f)) ⌝ }
 {
     let h = c.reading;
     put_pending(p, h.have, b);
@@ -53,10 +54,10 @@ fn enter_more(c: Core, b: u8, p: &mut [u8; 16]) -> Entered
     }
 }
 
-// One byte more.
+// One byte more. The totals stay, whatever they are.
 pub fn enter_byte(c: Core, b: u8, p: &mut [u8; 16]) -> Entered
     ensures { λ r. ⌜ length (now (p .exit)) ≡ length (now (p .entry)) ⌝ }
-    ensures { λ r. ⌜ ((k s m f : List ℕ) → step (state c (now (p .entry)) k s m f) b ≡ pick (r .whole) (cleared (recordRead (state (r .core) (now (p .exit)) k s m f) (decode (now (p .exit))))) (state (r .core) (now (p .exit)) k s m f)) ⌝ }
+    ensures { λ r. ⌜ ((g : Tally → Tally) (k s m f : List ℕ) → step (state (core (c .reading) (c .counts) (c .branch) (g (c .tally))) (now (p .entry)) k s m f) b ≡ pick (r .whole) (cleared (recordRead (state (core (r .core .reading) (r .core .counts) (r .core .branch) (g (r .core .tally))) (now (p .exit)) k s m f) (decode (now (p .exit))))) (state (core (r .core .reading) (r .core .counts) (r .core .branch) (g (r .core .tally))) (now (p .exit)) k s m f)) ⌝ }
 {
     let h = c.reading;
     if h.phase == 0 {

@@ -16,6 +16,7 @@ use Rattle.model.specs.Format.{effectRec}
 use Rattle.model.specs.Faults.{orderFault, effectFault}
 use Rattle.model.specs.Verdict.{field, decode}
 use Rattle.model.specs.Machine.{State, state, core, upTo, most32, most64, taken, oneRecord, effectBranch, effectTally, rowAfter, ownFaultIn, accepted, effectState, recordRead}
+use Rattle.counting.specs.Kinds.{withKinds}
 use Rattle.decoding.proofs.DecodeLaws.{decode-effect}
 use Rattle.targets.specs.Judging.{judgedIn}
 use Rattle.effects.specs.Effects.{Figures, figures, afterEffect, afterEffects, sound}
@@ -169,3 +170,8 @@ module _ (c : Core) (s m f l : List ℕ) where
         more = λ w. let b = g .more (omega arith) in (omega (arith, b .0), omega (arith, b .1), omega (arith, b .2));
         sounds = λ i w. g .sounds i (omega arith);
       }))
+
+-- whatever the totals of the kinds are
+pub with-kinds : {d : Core} {k s m f : List ℕ} {r : State} (x : List ℕ) (c : Core) (n u v : ℕ) → d ≡ coreAfter c n u v
+    → state (coreAfter (withKinds c x) n u v) (replicate 16 0) k s m f ≡ r → state (withKinds d x) (replicate 16 0) k s m f ≡ r
+with-kinds x c n u v e h = rw e h

@@ -7,6 +7,7 @@ ghost use Rattle.log2.specs.Logarithm.{Thresholds};
 ghost use Rattle.probit.specs.Table.{RowsReached};
 ghost use Rattle.model.specs.Bounds.{mostRecords};
 ghost use Rattle.model.specs.Machine.{most64, state};
+ghost use Rattle.counting.specs.Kinds.{withKinds};
 ghost use Rattle.study.specs.Following.{readingAfter, coreAfter};
 ghost use Rattle.study.specs.Spans.{afterFirst, Records};
 use crate::Study;
@@ -119,7 +120,7 @@ fn core_after(c: Core, count: u32, next: u32, unjudged: u32) -> Core
     }
 }
 
-// The effect that the bytes begin with, which has been entered, and the effects that follow it.
+// The effect that the bytes begin with, which has been entered, and the effects that follow it. The totals of the kinds stay, whatever they are.
 pub(crate) fn read_effects(
     table: &[u32; 256],
     rows: &[u8; 544],
@@ -131,7 +132,7 @@ pub(crate) fn read_effects(
 ) -> Run
     requires { ⌜ Thresholds (now table) × RowsReached (now rows) × (16 ≤ length (now bytes)) × (getD (now bytes) 0 0 ≡ 6) ⌝ }
     ensures { λ r. ⌜ Records (now (bytes .entry)) (r .at) ⌝ }
-    ensures { λ r. ⌜ ((q k : List ℕ) → state (r .core) (replicate 16 0) k (now (sums .exit)) (now (margins .exit)) (now (facts .exit)) ≡ afterFirst (state c q k (now (sums .entry)) (now (margins .entry)) (now (facts .entry))) (now (bytes .entry)) (r .at)) ⌝ }
+    ensures { λ r. ⌜ ((l q k : List ℕ) → state (withKinds (r .core) l) (replicate 16 0) k (now (sums .exit)) (now (margins .exit)) (now (facts .exit)) ≡ afterFirst (state (withKinds c l) q k (now (sums .entry)) (now (margins .entry)) (now (facts .entry))) (now (bytes .entry)) (r .at)) ⌝ }
 {
     let misplaced = place_fault(c, 6);
     if misplaced != 0 {

@@ -14,7 +14,7 @@ pub struct Taken {
 }
 
 impl Study {
-    // Reads a piece. The arrays are copied once and lent in the loop.
+    // Reads a piece. The arrays are copied once and lent in the loop. So are the totals of the kinds, which are put back into the core at the end.
     pub fn piece(self, bytes: &[u8]) -> Taken
         ensures { λ r. ⌜ view (r .study) ≡ readAll (view self) (now (bytes .entry)) ⌝ }
         ensures { λ r. ⌜ r .number ≡ numberAfter (self .core .reading .place) (length (now (bytes .entry))) (readAll (view self) (now (bytes .entry)) .core .reading) ⌝ }
@@ -26,6 +26,7 @@ impl Study {
         let mut sums = self.sums;
         let mut margins = self.margins;
         let mut facts = self.facts;
+        let mut kinds = counting::kinds_of(core.tally);
         let before = core.reading.place;
         let mut i = 0;
         while i < bytes.len() {
@@ -38,6 +39,7 @@ impl Study {
                 &mut sums,
                 &mut margins,
                 &mut facts,
+                &mut kinds,
             );
             core = run.core;
             i = run.at;
@@ -45,9 +47,10 @@ impl Study {
         let h = core.reading;
         let number = reading::piece_number(before, bytes.len() as u64, h);
         let place = reading::piece_place(h);
+        let whole = counting::with_kinds(core, &kinds);
         Taken {
             study: Study {
-                core: core,
+                core: whole,
                 pending: pending,
                 stack: stack,
                 sums: sums,

@@ -7,6 +7,7 @@ ghost use Rattle.model.specs.Content.{given, described};
 ghost use Rattle.model.specs.Format.{openingRec, targetRec, leakRec, branchingRec, outcomeRec, closingRec};
 ghost use Rattle.model.specs.Verdict.{bodyLength, decode, field, factsAt};
 ghost use Rattle.model.specs.Machine.{state, core, refusedWith, recordRead};
+ghost use Rattle.counting.specs.Kinds.{withKinds};
 ghost use Rattle.study.specs.Spans.{lengthOf};
 use crate::bounds::own_branching;
 use crate::bounds::own_leak;
@@ -85,9 +86,10 @@ fn read_branching(c: Core, p: &[u8], stack: &mut [u64; 9]) -> Core
     trees::take_branching(c, p, stack)
 }
 
-fn read_outcome(c: Core, p: &[u8], stack: &[u64; 9]) -> Core
+// The lent array has the totals of the kinds; those in the core are old.
+fn read_outcome(c: Core, p: &[u8], stack: &[u64; 9], kinds: &mut [u64; 6]) -> Core
     requires { ⌜ decode (now p) ≡ outcomeRec (field (now p) 1 1) (field (now p) 2 2) ⌝ }
-    ensures { λ r. ⌜ ((q s m f : List ℕ) → state r q (now (stack .entry)) s m f ≡ recordRead (state c q (now (stack .entry)) s m f) (decode (now (p .entry)))) ⌝ }
+    ensures { λ r. ⌜ ((q s m f : List ℕ) → state (withKinds r (now (kinds .exit))) q (now (stack .entry)) s m f ≡ recordRead (state (withKinds c (now (kinds .entry))) q (now (stack .entry)) s m f) (decode (now (p .entry)))) ⌝ }
 {
     let misplaced = place_fault(c, 5);
     if misplaced != 0 {
@@ -97,7 +99,7 @@ fn read_outcome(c: Core, p: &[u8], stack: &[u64; 9]) -> Core
     if own != 0 {
         return refused(c, own);
     }
-    trees::take_outcome(c, p, stack)
+    trees::take_outcome(c, p, stack, kinds)
 }
 
 fn read_closing(c: Core, p: &[u8]) -> Core
@@ -124,14 +126,20 @@ fn ended(c: Core, kind: u8) -> Run
 }
 
 // A record of any kind but an effect, and its length.
-pub(crate) fn read_other(c: Core, p: &[u8], stack: &mut [u64; 9], facts: &mut [u64; 256]) -> Run
+pub(crate) fn read_other(
+    c: Core,
+    p: &[u8],
+    stack: &mut [u64; 9],
+    facts: &mut [u64; 256],
+    kinds: &mut [u64; 6],
+) -> Run
     requires { ⌜ (getD (now p) 0 0 ≡ 6 → ⊥) ⌝ }
     ensures { λ r. ⌜ r .at ≡ lengthOf (now (p .entry)) ⌝ }
-    ensures { λ r. ⌜ ((q s m : List ℕ) → state (r .core) q (now (stack .exit)) s m (now (facts .exit)) ≡ recordRead (state c q (now (stack .entry)) s m (now (facts .entry))) (decode (now (p .entry)))) ⌝ }
+    ensures { λ r. ⌜ ((q s m : List ℕ) → state (withKinds (r .core) (now (kinds .exit))) q (now (stack .exit)) s m (now (facts .exit)) ≡ recordRead (state (withKinds c (now (kinds .entry))) q (now (stack .entry)) s m (now (facts .entry))) (decode (now (p .entry)))) ⌝ }
 {
     let kind = decoding::kind(p);
     if kind == 5 {
-        let after = read_outcome(c, p, stack);
+        let after = read_outcome(c, p, stack, kinds);
         return ended(after, kind);
     }
     if kind == 4 {

@@ -9,6 +9,7 @@ ghost use Rattle.probit.specs.Table.{RowsReached};
 ghost use Rattle.numeric.specs.Choice.{pick};
 ghost use Rattle.model.specs.Verdict.{decode};
 ghost use Rattle.model.specs.Machine.{core, reading, state, recordRead, cleared, step, readAll};
+ghost use Rattle.counting.specs.Kinds.{withKinds};
 ghost use Rattle.study.specs.Spans.{Between, Next, lengthOf, afterFirst, Records};
 use crate::following::read_effects;
 use crate::records::Run;
@@ -74,16 +75,17 @@ fn read_some(
     sums: &mut [u64; 256],
     margins: &mut [u32; 256],
     facts: &mut [u64; 256],
+    kinds: &mut [u64; 6],
 ) -> Run
     requires { ⌜ Thresholds (now table) × RowsReached (now rows) × (16 ≤ length (now bytes)) ⌝ }
     ensures { λ r. ⌜ Records (now (bytes .entry)) (r .at) ⌝ }
-    ensures { λ r. ⌜ ((q : List ℕ) → state (r .core) (replicate 16 0) (now (stack .exit)) (now (sums .exit)) (now (margins .exit)) (now (facts .exit)) ≡ afterFirst (state c q (now (stack .entry)) (now (sums .entry)) (now (margins .entry)) (now (facts .entry))) (now (bytes .entry)) (r .at)) ⌝ }
+    ensures { λ r. ⌜ ((q : List ℕ) → state (withKinds (r .core) (now (kinds .exit))) (replicate 16 0) (now (stack .exit)) (now (sums .exit)) (now (margins .exit)) (now (facts .exit)) ≡ afterFirst (state (withKinds c (now (kinds .entry))) q (now (stack .entry)) (now (sums .entry)) (now (margins .entry)) (now (facts .entry))) (now (bytes .entry)) (r .at)) ⌝ }
 {
     let kind = decoding::kind(bytes);
     if kind == 6 {
         return read_effects(table, rows, c, bytes, sums, margins, facts);
     }
-    read_other(c, bytes, stack, facts)
+    read_other(c, bytes, stack, facts, kinds)
 }
 
 // The record that the bytes begin with, which has been entered, and the whole records that follow it.
@@ -96,15 +98,26 @@ fn read_records(
     sums: &mut [u64; 256],
     margins: &mut [u32; 256],
     facts: &mut [u64; 256],
+    kinds: &mut [u64; 6],
 ) -> Run
     requires { ⌜ Thresholds (now table) × RowsReached (now rows) × (16 ≤ length (now bytes)) ⌝ }
     ensures { λ r. ⌜ Records (now (bytes .entry)) (r .at) ⌝ }
-    ensures { λ r. ⌜ ((q : List ℕ) → state (r .core) (replicate 16 0) (now (stack .exit)) (now (sums .exit)) (now (margins .exit)) (now (facts .exit)) ≡ afterFirst (state c q (now (stack .entry)) (now (sums .entry)) (now (margins .entry)) (now (facts .entry))) (now (bytes .entry)) (r .at)) ⌝ }
+    ensures { λ r. ⌜ ((q : List ℕ) → state (withKinds (r .core) (now (kinds .exit))) (replicate 16 0) (now (stack .exit)) (now (sums .exit)) (now (margins .exit)) (now (facts .exit)) ≡ afterFirst (state (withKinds c (now (kinds .entry))) q (now (stack .entry)) (now (sums .entry)) (now (margins .entry)) (now (facts .entry))) (now (bytes .entry)) (r .at)) ⌝ }
 {
     let mut core = c;
     let mut at: usize = 0;
     while 16 <= bytes.len() - at {
-        let run = read_some(table, rows, core, &bytes[at..], stack, sums, margins, facts);
+        let run = read_some(
+            table,
+            rows,
+            core,
+            &bytes[at..],
+            stack,
+            sums,
+            margins,
+            facts,
+            kinds,
+        );
         let after = run.core;
         at += run.at;
         if next_here(after.reading, &bytes[at..]) {
@@ -130,7 +143,7 @@ fn enter(direct: bool, c: Core, bytes: &[u8], p: &mut [u8; 16]) -> Entered
     requires { ⌜ (direct ≡ true → Next (c .reading) (now bytes)) × (0 < length (now bytes)) ⌝ }
     ensures { λ r. ⌜ length (now (p .exit)) ≡ length (now (p .entry)) ⌝ }
     ensures { λ r. ⌜ (direct ≡ true → (r .whole ≡ true) × (r .core ≡ core (reading 0 (lengthOf (now (bytes .entry))) (c .reading .place + lengthOf (now (bytes .entry))) (c .reading .place) 0 0) (c .counts) (c .branch) (c .tally))) ⌝ }
-    ensures { λ r. ⌜ (direct ≡ false → (k s m f : List ℕ) → step (state c (now (p .entry)) k s m f) (getD (now (bytes .entry)) 0 0) ≡ pick (r .whole) (cleared (recordRead (state (r .core) (now (p .exit)) k s m f) (decode (now (p .exit))))) (state (r .core) (now (p .exit)) k s m f)) ⌝ }
+    ensures { λ r. ⌜ (direct ≡ false → (l k s m f : List ℕ) → step (state (withKinds c l) (now (p .entry)) k s m f) (getD (now (bytes .entry)) 0 0) ≡ pick (r .whole) (cleared (recordRead (state (withKinds (r .core) l) (now (p .exit)) k s m f) (decode (now (p .exit))))) (state (withKinds (r .core) l) (now (p .exit)) k s m f)) ⌝ }
 {
     if direct {
         let begun = entered(c, bytes);
@@ -173,10 +186,11 @@ pub(crate) fn read_on(
     sums: &mut [u64; 256],
     margins: &mut [u32; 256],
     facts: &mut [u64; 256],
+    kinds: &mut [u64; 6],
 ) -> Run
     requires { ⌜ (from < length (now bytes)) × (length (now p) ≡ 16) ⌝ }
     ensures { λ r. ⌜ (from < r .at) × (r .at ≤ length (now (bytes .entry))) ⌝ }
-    ensures { λ r. ⌜ state (r .core) (now (p .exit)) (now (stack .exit)) (now (sums .exit)) (now (margins .exit)) (now (facts .exit)) ≡ readAll (state c (now (p .entry)) (now (stack .entry)) (now (sums .entry)) (now (margins .entry)) (now (facts .entry))) (take (r .at - from) (drop from (now (bytes .entry)))) ⌝ }
+    ensures { λ r. ⌜ state (withKinds (r .core) (now (kinds .exit))) (now (p .exit)) (now (stack .exit)) (now (sums .exit)) (now (margins .exit)) (now (facts .exit)) ≡ readAll (state (withKinds c (now (kinds .entry))) (now (p .entry)) (now (stack .entry)) (now (sums .entry)) (now (margins .entry)) (now (facts .entry))) (take (r .at - from) (drop from (now (bytes .entry)))) ⌝ }
 {
     let direct = next_here(c.reading, &bytes[from..]);
     let e = enter(direct, c, &bytes[from..], p);
@@ -185,7 +199,7 @@ pub(crate) fn read_on(
         let table = log2::thresholds();
         let rows = probit::rows();
         let here = source(direct, &bytes[from..], p);
-        let run = read_records(&table, &rows, d, here, stack, sums, margins, facts);
+        let run = read_records(&table, &rows, d, here, stack, sums, margins, facts, kinds);
         clear(p);
         let after = run.core;
         let end = from + taken_from(direct, run.at);

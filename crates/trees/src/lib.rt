@@ -4,6 +4,7 @@ ghost use Prim.Native.Nat.{_+_, _-_};
 ghost use Rattle.numeric.specs.Share.{splitOf};
 ghost use Rattle.model.specs.Verdict.{field};
 ghost use Rattle.model.specs.Machine.{core, taken, oneRecord, oneLeak, store, packed, aboveOf, top, leakStack, branchStack, leakBranch, branchedBranch, outcomeBranch, outcomeTally, frequencyOf};
+ghost use Rattle.counting.specs.Kinds.{withKinds};
 use state::Core;
 
 // A pending tree in one number: its frequency and the branchings above it.
@@ -95,12 +96,13 @@ pub fn take_branching(c: Core, p: &[u8], stack: &mut [u64; 9]) -> Core
     counting::core_branching(c)
 }
 
-pub fn take_outcome(c: Core, p: &[u8], stack: &[u64; 9]) -> Core
-    ensures { λ r. ⌜ r ≡ core (taken (c .reading) 0) (oneRecord (c .counts)) (outcomeBranch (c .branch) (top (now (stack .entry)) (c .branch .height)) (field (now (p .entry)) 1 1) (field (now (p .entry)) 2 2)) (outcomeTally (c .tally) (field (now (p .entry)) 1 1) (frequencyOf (top (now (stack .entry)) (c .branch .height)))) ⌝ }
+// The lent array has the totals of the kinds; those in the core are old.
+pub fn take_outcome(c: Core, p: &[u8], stack: &[u64; 9], kinds: &mut [u64; 6]) -> Core
+    ensures { λ r. ⌜ withKinds r (now (kinds .exit)) ≡ core (taken (c .reading) 0) (oneRecord (c .counts)) (outcomeBranch (c .branch) (top (now (stack .entry)) (c .branch .height)) (field (now (p .entry)) 1 1) (field (now (p .entry)) 2 2)) (outcomeTally (withKinds c (now (kinds .entry)) .tally) (field (now (p .entry)) 1 1) (frequencyOf (top (now (stack .entry)) (c .branch .height)))) ⌝ }
 {
     let kind = decoding::byte_at_1(p);
     let effects = decoding::half_at_2(p);
     let b = c.branch;
     let tree = next_tree(stack, b.height);
-    counting::core_outcome(c, tree, kind, effects)
+    counting::core_outcome(c, tree, kind, effects, kinds)
 }

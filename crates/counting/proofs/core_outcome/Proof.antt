@@ -1,5 +1,7 @@
--- `counting::core_outcome` meets its contract. Assumes nothing.
+-- `counting::core_outcome` meets its contract: each of the six totals. Assumes nothing.
 use mathlib.Core.Path.{refl}
+use native.Mathlib.Omega.{arith}
+use Rattle.model.specs.Machine.{outcomeTally}
 use borrow.Author.Needs.{needs}
 use Rattle.counting.proofs.core_outcome.Statement.{statement}
 use Rattle.counting.proofs.core_outcome.Tie as tie
@@ -13,11 +15,25 @@ count-record-requires c κs = search needs
 enter-outcome-requires : tie.Need-enter-outcome-requires
 enter-outcome-requires c κs = search needs
 
-tally-outcome-requires : tie.Need-tally-outcome-requires
-tally-outcome-requires c κs = search needs
+grow-kind-requires : tie.Need-grow-kind-requires
+grow-kind-requires c κs = search needs
 
 returns : tie.Need-returns
-returns c = rw (c .before .before .before .take .ensures, c .before .before .count-record .ensures, c .before .enter-outcome .ensures, c .tally-outcome .ensures) refl
+unfolding outcomeTally
+returns c =
+    let g = c .grow-kind .ensures in
+    rw (
+      c .before .before .before .before .before .take .ensures,
+      c .before .before .before .before .count-record .ensures,
+      c .before .before .before .enter-outcome .ensures,
+      g 0 (omega arith),
+      g 1 (omega arith),
+      g 2 (omega arith),
+      g 3 (omega arith),
+      g 4 (omega arith),
+      g 5 (omega arith),
+    )
+    refl
 
 pub core-outcome-spec : {M : Type 1} → statement M
 core-outcome-spec =
@@ -26,5 +42,5 @@ core-outcome-spec =
     take-requires
     count-record-requires
     enter-outcome-requires
-    tally-outcome-requires
+    grow-kind-requires
     returns)

@@ -19,12 +19,11 @@ core-outcome-requires c κs = search needs
 returns : tie.Need-returns
 returns c =
     rw (
-      c .core-outcome .ensures,
-      c .before .next-tree .ensures,
-      c .before .before .before .half-at-2 .ensures,
-      c .before .before .before .before .byte-at-1 .ensures,
+      ← c .before .before .next-tree .ensures,
+      ← c .before .before .before .before .half-at-2 .ensures,
+      ← c .before .before .before .before .before .byte-at-1 .ensures,
     )
-    refl
+    (c .core-outcome .ensures)
 
 pub take-outcome-spec : {M : Type 1} → statement M
 take-outcome-spec =

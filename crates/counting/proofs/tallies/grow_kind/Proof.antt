@@ -1,10 +1,12 @@
 -- `counting::tallies::grow_kind` meets its contract. Assumes nothing.
-use mathlib.Core.Path.{refl}
-use Rattle.numeric.proofs.ChoiceLaws.{lt-case, ge-case}
-use Rattle.model.specs.Machine.{store}
+use native.Mathlib.Omega.{arith}
+use Rattle.counting.proofs.KindLaws.{kind-set, kind-none}
 use borrow.Author.Needs.{needs}
 use Rattle.counting.proofs.tallies.grow_kind.Statement.{statement}
 use Rattle.counting.proofs.tallies.grow_kind.Tie as tie
+
+how-many-requires : tie.Need-how-many-requires
+how-many-requires c κs = search needs
 
 mul-add64 : tie.Need-mul-add64
 mul-add64 c = search needs
@@ -22,17 +24,23 @@ element-write-kinds : tie.Need-element-write-kinds
 element-write-kinds c = search needs
 
 returns : tie.Need-returns
-unfolding store
-returns c = lt-case _ _ _ _ (c .before .before .if1 .taken) (rw (c .add64 .ensures) refl)
+returns c j h =
+    let m = c .before .before .before in
+    let a = m .before .before .args in
+    let n = m .how-many .ensures in
+    rw (c .add64 .ensures) (kind-set (a .kinds .now) (a .kind) (a .frequency) j (n .1) (omega (arith, n .0, c .before .before .if1 .taken)))
 
 returns-2 : tie.Need-returns-2
-unfolding store
-returns-2 c = ge-case _ _ _ _ (c .if1 .left) refl
+returns-2 c j h =
+    let m = c .before in
+    let a = m .before .before .args in
+    kind-none (a .kinds .now) (a .kind) (a .frequency) j (omega (arith, m .how-many .ensures .0, c .if1 .left)) h
 
 pub grow-kind-spec : {M : Type 1} → statement M
 grow-kind-spec =
     tie.close
     (tie.spec
+    how-many-requires
     mul-add64
     element-copy-out-add64
     add64-requires

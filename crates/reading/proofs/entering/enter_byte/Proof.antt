@@ -20,7 +20,7 @@ returns : tie.Need-returns
 unfolding step
 returns c = (
   rw (c .before .before .put-pending .ensures) (store-wide _ _ _),
-  λ k s m f.
+  λ g k s m f.
       sym
       (eq-case _ _ _ _ (c .before .before .before .before .before .before .if1 .taken)
       (eq-case _ _ _ _ (c .before .before .before .before .if2 .taken) (rw (c .core-reading .ensures, c .before .begin .ensures, c .before .before .put-pending .ensures) refl))),
@@ -31,11 +31,11 @@ enter-more-requires c κs = search needs
 
 returns-2 : tie.Need-returns-2
 unfolding step
-returns-2 c = (c .enter-more .ensures .0, λ k s m f. sym (eq-case _ _ _ _ (c .before .before .before .before .if1 .taken) (ne-case _ _ _ _ (c .before .before .if2 .left) (sym (c .enter-more .ensures .1 k s m f)))))
+returns-2 c = (c .enter-more .ensures .0, λ g k s m f. sym (eq-case _ _ _ _ (c .before .before .before .before .if1 .taken) (ne-case _ _ _ _ (c .before .before .if2 .left) (sym (c .enter-more .ensures .1 g k s m f)))))
 
 returns-3 : tie.Need-returns-3
 unfolding step
-returns-3 c = (refl, λ k s m f. sym (ne-case _ _ _ _ (c .if1 .left) refl))
+returns-3 c = (refl, λ g k s m f. sym (ne-case _ _ _ _ (c .if1 .left) refl))
 
 pub enter-byte-spec : {M : Type 1} → statement M
 enter-byte-spec =

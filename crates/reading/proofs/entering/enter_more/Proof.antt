@@ -29,7 +29,7 @@ returns : tie.Need-returns
 unfolding body ended
 returns c = (
   rw (c .before .before .before .before .before .before .put-pending .ensures) (store-wide _ _ _),
-  λ k s m f.
+  λ g k s m f.
       rw (c .before .before .before .before .core-reading .ensures, ← c .before .before .before .before .before .before .put-pending .ensures, ← c .before .before .before .before .before .grow .ensures)
       (sym (le-case _ _ _ _ (rw (← c .before .before .body-length .ensures, ← c .before .one-less .ensures) (c .if1 .taken)) refl)),
 )
@@ -38,7 +38,7 @@ returns-2 : tie.Need-returns-2
 unfolding body ended
 returns-2 c = (
   rw (c .before .before .before .before .before .before .put-pending .ensures) (store-wide _ _ _),
-  λ k s m f.
+  λ g k s m f.
       rw (c .before .before .before .before .core-reading .ensures, ← c .before .before .before .before .before .before .put-pending .ensures, ← c .before .before .before .before .before .grow .ensures)
       (sym (gt-case _ _ _ _ (rw (← c .before .before .body-length .ensures, ← c .before .one-less .ensures) (c .if1 .left)) refl)),
 )

@@ -1,18 +1,24 @@
 -- `study::following::read_effects` meets its contract: the first effect is refused, or it is taken with those that follow it. Assumes nothing.
 use mathlib.Core.Path.{_≡_, refl, sym, _∙_, ap}
-use mathlib.Core.List.{List}
-use Prim.Native.Nat.{ℕ, _-_}
+use mathlib.Core.List.{List, []}
+use Prim.Native.Nat.{ℕ, _+_, _-_}
 use native.Mathlib.Omega.{arith}
 use lib.ListN.{replicate}
+use Rattle.model.specs.Content.{inSeconds}
+use Rattle.model.specs.Format.{effectRec}
+use Rattle.model.specs.Verdict.{field, decode}
 use Rattle.model.specs.Machine.{State, state, ownFaultIn, withReading}
+use Rattle.counting.specs.Kinds.{withKinds}
 use Rattle.decoding.proofs.DecodeLaws.{decode-effect}
 use Rattle.effects.specs.Effects.{Figures, figures, afterEffects}
 use Rattle.effects.proofs.Laws.{effects-none}
+use Rattle.study.specs.Placing.{placeFault}
 use Rattle.study.specs.Following.{coreAfter}
 use Rattle.study.specs.Spans.{lengthOf}
 use Rattle.study.proofs.RecordLaws.{place-refused, own-refused}
 use Rattle.study.proofs.SpanLaws.{effect-length, read-alone, records-alone}
-use Rattle.study.proofs.FollowLaws.{Free, begin, effects-read, unsound-fault}
+use Rattle.study.proofs.KindLaws.{Other, other-read}
+use Rattle.study.proofs.FollowLaws.{Free, begin, effects-read, unsound-fault, with-kinds}
 use borrow.Author.Needs.{needs}
 use Rattle.study.proofs.following.read_effects.Statement.{statement}
 use Rattle.study.proofs.following.read_effects.Tie as tie
@@ -24,14 +30,17 @@ refused-requires : tie.Need-refused-requires
 refused-requires c κs = search needs
 
 returns : tie.Need-returns
-unfolding withReading
+unfolding withReading Other
 returns c =
     let f = c .before .before in
     let s = f .before .before in
     let l = s .args .bytes .now in
     let n : 9 ≡ lengthOf l = sym (effect-length l (s .pre .3)) in (
       records-alone l 9 n (s .pre .2),
-      λ q k. read-alone _ _ q k _ _ _ l 9 n (rw (decode-effect l (s .pre .3)) (place-refused _ _ _ (f .place-fault .ensures) (c .before .if1 .taken) (rw (c .refused .ensures) refl))),
+      λ x q k.
+          read-alone _ _ q k _ _ _ l 9 n
+          (other-read x (s .args .c) (c .refused .result) q k (s .args .sums .now) (s .args .margins .now) (s .args .facts .now) k (s .args .sums .now) (s .args .margins .now) (s .args .facts .now) (decode l) (effectRec (inSeconds (field l 1 2) (field l 3 4) (field l 7 2))) (decode-effect l (s .pre .3)) tt
+          (rw (decode-effect l (s .pre .3)) (place-refused _ _ _ (f .place-fault .ensures) (c .before .if1 .taken) (rw (c .refused .ensures) refl)))),
     )
 
 most-effects-requires : tie.Need-most-effects-requires
@@ -47,7 +56,7 @@ refused-requires-2 : tie.Need-refused-requires-2
 refused-requires-2 c κs = search needs
 
 returns-2 : tie.Need-returns-2
-unfolding ownFaultIn withReading
+unfolding ownFaultIn withReading Other
 returns-2 c =
     let none = c .before .before .if2 .taken in
     let t = c .before .before .before .before in
@@ -63,10 +72,11 @@ returns-2 c =
     let same = (rw none at (e .1 .0 (s .pre .0) (s .pre .1))) ∙ sym (effects-none (g .c .branch) start l) in
     let u = rw (none, ap (λ (x : Figures). x .next) same) at (e .1 .1 .1 (omega (arith, none, m .most-effects .ensures .0, s .pre .2))) in (
       records-alone l 9 n (s .pre .2),
-      λ q k.
+      λ x q k.
           read-alone _ _ q k _ _ _ l 9 n
-          (rw (ap (λ (x : Figures). x .sums) same, ap (λ (x : Figures). x .margins) same, ap (λ (x : Figures). x .facts) same, decode-effect l (s .pre .3))
-          (own-refused _ _ _ _ (f .place-fault .ensures) (i .if1 .left) (c .before .own-effect .ensures) (λ z. unsound-fault _ _ _ l u (s .pre .3) (sym (c .before .own-effect .ensures) ∙ z)) (rw (c .refused2 .ensures) refl))),
+          (other-read x (g .c) (c .refused2 .result) q k (g .sums .now) (g .margins .now) (g .facts .now) k _ _ _ (decode l) (effectRec (inSeconds (field l 1 2) (field l 3 4) (field l 7 2))) (decode-effect l (s .pre .3)) tt
+          (rw (ap (λ (y : Figures). y .sums) same, ap (λ (y : Figures). y .margins) same, ap (λ (y : Figures). y .facts) same, decode-effect l (s .pre .3))
+          (own-refused _ _ _ _ (f .place-fault .ensures) (i .if1 .left) (c .before .own-effect .ensures) (λ z. unsound-fault _ _ _ l u (s .pre .3) (sym (c .before .own-effect .ensures) ∙ z)) (rw (c .refused2 .ensures) refl)))),
     )
 
 cast-core-after : tie.Need-cast-core-after
@@ -83,6 +93,7 @@ mul-t23 : tie.Need-mul-t23
 mul-t23 c = search needs
 
 returns-3 : tie.Need-returns-3
+unfolding placeFault
 returns-3 c =
     let a = c .before in
     let t = a .before .before .before .before in
@@ -94,18 +105,18 @@ returns-3 c =
     let e = t .take-effects .ensures in
     let n = t .take-effects .result .count in
     let some = a .before .before .if2 .left in
-    let free : Free (g .c) (g .sums .now) (g .margins .now) (g .facts .now) (g .bytes .now) n =
-    record {
+    let free : (x : List ℕ) → Free (withKinds (g .c) x) (g .sums .now) (g .margins .now) (g .facts .now) (g .bytes .now) n =
+    λ x. record {
       placed = sym (i .if1 .left) ∙ f .place-fault .ensures;
       room = omega (arith, some, e .0);
       more = λ w. let b = m .most-effects .ensures .1 (omega (arith, w, e .0)) in (omega (arith, b .0, e .0), omega (arith, b .1, e .0), omega (arith, b .2, e .0));
       sounds = e .1 .1 .0 (s .pre .0) (s .pre .1);
     } in
-    let r = effects-read (g .c) (g .sums .now) (g .margins .now) (g .facts .now) (g .bytes .now) (n - 1) n (omega (arith, some)) free in (
-      r .0,
-      λ q k.
-          rw (a .core-after .ensures)
-          (ap (λ (x : Figures). state (coreAfter (g .c) n (x .next) (x .unjudged)) (replicate 16 0) k (x .sums) (x .margins) (x .facts)) (e .1 .0 (s .pre .0) (s .pre .1)) ∙ r .1 q k),
+    let last : n ≡ n - 1 + 1 = omega (arith, some) in (
+      effects-read (withKinds (g .c) []) (g .sums .now) (g .margins .now) (g .facts .now) (g .bytes .now) (n - 1) n last (free []) .0,
+      λ x q k.
+          with-kinds x (g .c) n (t .take-effects .result .next) (t .take-effects .result .unjudged) (a .core-after .ensures)
+          (ap (λ (y : Figures). state (coreAfter (withKinds (g .c) x) n (y .next) (y .unjudged)) (replicate 16 0) k (y .sums) (y .margins) (y .facts)) (e .1 .0 (s .pre .0) (s .pre .1)) ∙ effects-read (withKinds (g .c) x) (g .sums .now) (g .margins .now) (g .facts .now) (g .bytes .now) (n - 1) n last (free x) .1 q k),
     )
 
 pub read-effects-spec : {M : Type 1} → statement M

@@ -1,6 +1,9 @@
 -- `study::records::read_outcome` meets its contract, case by case. Assumes nothing.
-use mathlib.Core.Path.{refl}
-use Rattle.model.specs.Machine.{accepted, ownFaultIn, withReading}
+use mathlib.Core.Path.{refl, ap}
+use Rattle.state.specs.declared.Core.{Core}
+use Rattle.model.specs.Machine.{state, accepted, ownFaultIn, withReading}
+use Rattle.counting.specs.Kinds.{withKinds}
+use Rattle.study.specs.Placing.{placeFault}
 use Rattle.study.proofs.RecordLaws.{place-refused, own-refused, without-fault}
 use borrow.Author.Needs.{needs}
 use Rattle.study.proofs.records.read_outcome.Statement.{statement}
@@ -13,8 +16,12 @@ refused-requires : tie.Need-refused-requires
 refused-requires c κs = search needs
 
 returns : tie.Need-returns
-unfolding withReading
-returns c q s m f = rw (c .before .before .before .before .pre) (place-refused _ _ _ (c .before .before .place-fault .ensures) (c .before .if1 .taken) (rw (c .refused .ensures) refl))
+unfolding withReading placeFault
+returns c q s m f =
+    let p = c .before .before in
+    let a = p .before .before in
+    rw (a .pre)
+    (place-refused (state (withKinds (a .args .c) (a .args .kinds .now)) q (a .args .stack .now) s m f) _ _ (p .place-fault .ensures) (c .before .if1 .taken) (rw (c .refused .ensures) refl))
 
 own-outcome-requires : tie.Need-own-outcome-requires
 own-outcome-requires c κs = search needs
@@ -23,21 +30,24 @@ refused-requires-2 : tie.Need-refused-requires-2
 refused-requires-2 c κs = search needs
 
 returns-2 : tie.Need-returns-2
-unfolding ownFaultIn withReading
+unfolding ownFaultIn withReading placeFault
 returns-2 c q s m f =
     let p = c .before .before .before .before in
-    rw (p .before .before .pre)
-    (own-refused _ _ _ _ (p .place-fault .ensures) (c .before .before .before .if1 .left) (c .before .before .own-outcome .ensures) (c .before .if2 .taken) (rw (c .refused2 .ensures) refl))
+    let a = p .before .before in
+    rw (a .pre)
+    (own-refused (state (withKinds (a .args .c) (a .args .kinds .now)) q (a .args .stack .now) s m f) _ _ _ (p .place-fault .ensures) (c .before .before .before .if1 .left) (c .before .before .own-outcome .ensures) (c .before .if2 .taken) (rw (c .refused2 .ensures) refl))
 
 take-outcome-requires : tie.Need-take-outcome-requires
 take-outcome-requires c κs = search needs
 
 returns-3 : tie.Need-returns-3
-unfolding accepted ownFaultIn
+unfolding accepted ownFaultIn placeFault
 returns-3 c q s m f =
-    let p = c .before .before .before .before in
-    rw (p .before .before .pre)
-    (without-fault _ _ _ _ (p .place-fault .ensures) (c .before .before .before .if1 .left) (c .before .before .own-outcome .ensures) (c .before .if2 .left) (rw (c .take-outcome .ensures) refl))
+    let p = c .before .before .before .before .before in
+    let a = p .before .before in
+    rw (a .pre)
+    (without-fault (state (withKinds (a .args .c) (a .args .kinds .now)) q (a .args .stack .now) s m f) _ _ _ (p .place-fault .ensures) (c .before .before .before .before .if1 .left) (c .before .before .before .own-outcome .ensures) (c .before .before .if2 .left)
+    (ap (λ (x : Core). state x q (a .args .stack .now) s m f) (c .take-outcome .ensures)))
 
 pub read-outcome-spec : {M : Type 1} → statement M
 read-outcome-spec =

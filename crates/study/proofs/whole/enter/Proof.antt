@@ -1,6 +1,7 @@
 -- `study::whole::enter` meets its contract, case by case. Assumes nothing.
 use mathlib.Core.Path.{refl, sym, subst, _∙_}
 use lib.Dec.{T}
+use Rattle.counting.specs.Kinds.{tallyWith}
 use borrow.Author.Needs.{needs}
 use Rattle.study.proofs.whole.enter.Statement.{statement}
 use Rattle.study.proofs.whole.enter.Tie as tie
@@ -18,7 +19,7 @@ enter-byte-requires : tie.Need-enter-byte-requires
 enter-byte-requires c κs = search needs
 
 returns-2 : tie.Need-returns-2
-returns-2 c = (c .enter-byte .ensures .0, (λ z. absurd (subst T (sym z ∙ c .before .before .before .if1 .left) tt), λ z. c .enter-byte .ensures .1))
+returns-2 c = (c .enter-byte .ensures .0, (λ z. absurd (subst T (sym z ∙ c .before .before .before .if1 .left) tt), λ z l. c .enter-byte .ensures .1 (tallyWith l)))
 
 pub enter-spec : {M : Type 1} → statement M
 enter-spec =

@@ -1,8 +1,10 @@
 -- `study::whole::read_on` meets its contract: whole records, or a byte and the record that it makes whole. Assumes nothing.
-use mathlib.Core.Path.{_∙_}
+use mathlib.Core.Path.{_∙_, ap}
 use Prim.Native.Nat.{_+_, _<_, _≤_}
 use native.Mathlib.Omega.{arith}
 use lib.ListN.{length}
+use Rattle.state.specs.declared.Core.{Core}
+use Rattle.counting.specs.Kinds.{withKinds}
 use Rattle.study.proofs.SpanLaws.{EnteredEither, either-wide, either-there, either-read, either-byte}
 use borrow.Author.Needs.{needs}
 use Rattle.study.proofs.whole.read_on.Statement.{statement}
@@ -10,15 +12,15 @@ use Rattle.study.proofs.whole.read_on.Tie as tie
 
 -- what has been entered
 entered-at : (c : tie.After-enter)
-    → EnteredEither (c .before .before .before .next-here .result) (c .enter .result .whole) (c .before .before .before .before .before .before .args .c) (c .enter .result .core) (c .before .before .before .before .before .before .args .p .now) (c .enter .last .1 .1 .1 .0) (c .before .before .before .before .before .before .args .bytes .now) (c .before .before .before .before .before .before .args .from)
-entered-at c = record { here = c .before .before .before .before .before .before .pre .0; wide = c .before .before .before .before .before .before .pre .1; stays = c .enter .ensures .0; next = c .before .before .before .next-here .ensures; record-whole = c .enter .ensures .1 .0; byte = c .enter .ensures .1 .1 }
+    → EnteredEither (c .before .before .before .next-here .result) (c .enter .result .whole) (withKinds (c .before .before .before .before .before .before .args .c) (c .before .before .before .before .before .before .args .kinds .now)) (withKinds (c .enter .result .core) (c .before .before .before .before .before .before .args .kinds .now)) (c .before .before .before .before .before .before .args .p .now) (c .enter .last .1 .1 .1 .0) (c .before .before .before .before .before .before .args .bytes .now) (c .before .before .before .before .before .before .args .from)
+entered-at c = record { here = c .before .before .before .before .before .before .pre .0; wide = c .before .before .before .before .before .before .pre .1; stays = c .enter .ensures .0; next = c .before .before .before .next-here .ensures; record-whole = λ z. (c .enter .ensures .1 .0 z .0, ap (λ (x : Core). withKinds x (c .before .before .before .before .before .before .args .kinds .now)) (c .enter .ensures .1 .0 z .1)); byte = λ z. c .enter .ensures .1 .1 z (c .before .before .before .before .before .before .args .kinds .now) }
 
 -- the bytes that are read
-there-at : (c : tie.After-taken-from) → (c .before .before .before .before .before .before .before .before .before .before .before .before .before .before .before .before .before .before .before .before .before .before .before .before .args .from < c .before .before .before .before .before .before .before .before .before .before .before .before .before .before .before .before .before .before .before .before .before .before .before .before .args .from + c .taken-from .result) × (c .before .before .before .before .before .before .before .before .before .before .before .before .before .before .before .before .before .before .before .before .before .before .before .before .args .from + c .taken-from .result ≤ length (c .before .before .before .before .before .before .before .before .before .before .before .before .before .before .before .before .before .before .before .before .before .before .before .before .args .bytes .now))
+there-at : (c : tie.After-taken-from) → (c .before .before .before .before .before .before .before .before .before .before .before .before .before .before .before .before .before .before .before .before .before .before .before .before .before .args .from < c .before .before .before .before .before .before .before .before .before .before .before .before .before .before .before .before .before .before .before .before .before .before .before .before .before .args .from + c .taken-from .result) × (c .before .before .before .before .before .before .before .before .before .before .before .before .before .before .before .before .before .before .before .before .before .before .before .before .before .args .from + c .taken-from .result ≤ length (c .before .before .before .before .before .before .before .before .before .before .before .before .before .before .before .before .before .before .before .before .before .before .before .before .before .args .bytes .now))
 there-at c =
-    let a = c .before .before .before .before .before .before .before .before .before .before .before .before .before .before .before .before .before .before .before .before .before .before .before .before in
+    let a = c .before .before .before .before .before .before .before .before .before .before .before .before .before .before .before .before .before .before .before .before .before .before .before .before .before in
     rw (c .taken-from .ensures)
-    (either-there (c .before .before .before .before .before .before .before .before .before .before .before .before .before .before .before .before .before .before .before .before .before .next-here .result) (a .args .bytes .now) (c .before .before .before .before .before .before .before .before .before .before .before .before .before .before .before .before .before .before .enter .last .1 .1 .1 .0) _ (a .args .from) _ (a .pre .0) (c .before .before .before .before .before .before .before .before .before .before .before .source .ensures) (c .before .before .before .before .read-records .ensures .0))
+    (either-there (c .before .before .before .before .before .before .before .before .before .before .before .before .before .before .before .before .before .before .before .before .before .before .next-here .result) (a .args .bytes .now) (c .before .before .before .before .before .before .before .before .before .before .before .before .before .before .before .before .before .before .before .enter .last .1 .1 .1 .0) _ (a .args .from) _ (a .pre .0) (c .before .before .before .before .before .before .before .before .before .before .before .before .source .ensures) (c .before .before .before .before .read-records .ensures .0))
 
 sub-next-here : tie.Need-sub-next-here
 sub-next-here c = search needs
@@ -64,9 +66,9 @@ source-requires c κs = search needs
 
 read-records-requires : tie.Need-read-records-requires
 read-records-requires c κs =
-    let a = c .before .before .before .before .before .before .before .before .before .before .before .before .before .before .before .before .before .before .before in
-    let e = entered-at (c .before .before .before .before .before .before .before .before .before .before .before .before .before) in
-    (c .before .before .before .before .before .before .before .before .before .before .thresholds .ensures, c .before .before .before .before .before .before .before .before .before .rows .ensures, either-wide (c .before .before .before .before .before .before .before .before .before .before .before .before .before .before .before .before .next-here .result) _ (a .args .bytes .now) (c .before .before .before .before .before .before .before .before .before .before .before .before .before .enter .last .1 .1 .1 .0) _ (a .args .from) (e .next) (e .stays ∙ a .pre .1) (c .before .before .before .before .before .before .source .ensures))
+    let a = c .before .before .before .before .before .before .before .before .before .before .before .before .before .before .before .before .before .before .before .before in
+    let e = entered-at (c .before .before .before .before .before .before .before .before .before .before .before .before .before .before) in
+    (c .before .before .before .before .before .before .before .before .before .before .before .thresholds .ensures, c .before .before .before .before .before .before .before .before .before .before .rows .ensures, either-wide (c .before .before .before .before .before .before .before .before .before .before .before .before .before .before .before .before .before .next-here .result) _ (a .args .bytes .now) (c .before .before .before .before .before .before .before .before .before .before .before .before .before .before .enter .last .1 .1 .1 .0) _ (a .args .from) (e .next) (e .stays ∙ a .pre .1) (c .before .before .before .before .before .before .before .source .ensures))
 
 clear-requires : tie.Need-clear-requires
 clear-requires c κs = search needs
@@ -75,12 +77,12 @@ taken-from-requires : tie.Need-taken-from-requires
 taken-from-requires c κs = search needs
 
 add-end : tie.Need-add-end
-add-end c = omega (arith, there-at c, c .before .before .before .before .before .before .before .before .before .before .before .before .before .before .before .before .before .before .before .before .before .before .before .before .good)
+add-end c = omega (arith, there-at c, c .before .before .before .before .before .before .before .before .before .before .before .before .before .before .before .before .before .before .before .before .before .before .before .before .before .good)
 
 returns : tie.Need-returns
 returns c =
     let r = c .before .before .before .before .read-records .ensures in
-    (there-at c, rw (c .before .before .clear .ensures, c .taken-from .ensures) (either-read _ _ _ _ _ _ _ _ _ _ _ _ _ _ _ (entered-at (c .before .before .before .before .before .before .before .before .before .before .before .before .before .before .before .before .before .before)) (c .before .before .before .before .before .before .before .before .before .before .before .before .before .before .before .before .if1 .taken) (c .before .before .before .before .before .before .before .before .before .before .before .source .ensures) (r .0) (r .1)))
+    (there-at c, rw (c .before .before .clear .ensures, c .taken-from .ensures) (either-read _ _ _ _ _ _ _ _ _ _ _ _ _ _ _ (entered-at (c .before .before .before .before .before .before .before .before .before .before .before .before .before .before .before .before .before .before .before)) (c .before .before .before .before .before .before .before .before .before .before .before .before .before .before .before .before .before .if1 .taken) (c .before .before .before .before .before .before .before .before .before .before .before .before .source .ensures) (r .0) (r .1)))
 
 add-next : tie.Need-add-next
 add-next c = search needs

@@ -1,0 +1,47 @@
+-- A record that is no outcome leaves the totals of the kinds, whatever they are. Assumes nothing.
+use mathlib.Core.Path.{_≡_, refl, _∙_, ap}
+use mathlib.Core.Bool.{Bool, true, false}
+use mathlib.Core.List.{List}
+use Prim.Native.Nat.{ℕ}
+use lib.Dec.{eqb}
+use Rattle.numeric.specs.Choice.{pick, ifEq}
+use Rattle.state.specs.declared.Core.{Core}
+use Rattle.model.specs.Format.{Record, openingRec, targetRec, leakRec, branchingRec, outcomeRec, effectRec, closingRec}
+use Rattle.model.specs.Machine.{State, state, ownFaultIn, faultIn, studyTally, effectTally, effectState, accepted, withReading, recordRead}
+use Rattle.counting.specs.Kinds.{withKinds}
+
+unfoldable kinded : List ℕ → State → State
+kinded l s = state (withKinds (s .core) l) (s .pending) (s .stack) (s .sums) (s .margins) (s .facts)
+
+unfoldable pub Other : Record → Type 0
+Other (openingRec n) = Unit
+Other (targetRec n t) = Unit
+Other (leakRec n f) = Unit
+Other (branchingRec b) = Unit
+Other (outcomeRec k n) = ⊥
+Other (effectRec e) = Unit
+Other (closingRec n s) = Unit
+
+either : (l : List ℕ) (m n : ℕ) (a b x y : State) → kinded l a ≡ x → kinded l b ≡ y → kinded l (ifEq m n a b) ≡ ifEq m n x y
+unfolding ifEq
+either l m n a b x y p q = go (eqb m n)
+  where
+    go : (t : Bool) → kinded l (pick t a b) ≡ pick t x y
+    go true = p
+    go false = q
+
+kinds-stay : (l : List ℕ) (s : State) (r : Record) → Other r → kinded l (recordRead s r) ≡ recordRead (kinded l s) r
+unfolding Other kinded recordRead faultIn ownFaultIn accepted withReading effectState studyTally effectTally
+kinds-stay l s (openingRec n) o = either l _ _ _ _ _ _ refl refl
+kinds-stay l s (targetRec n t) o = either l _ _ _ _ _ _ refl refl
+kinds-stay l s (leakRec n f) o = either l _ _ _ _ _ _ refl refl
+kinds-stay l s (branchingRec b) o = either l _ _ _ _ _ _ refl refl
+kinds-stay l s (outcomeRec k n) o = absurd o
+kinds-stay l s (effectRec e) o = either l _ _ _ _ _ _ refl refl
+kinds-stay l s (closingRec n t) o = either l _ _ _ _ _ _ refl refl
+
+-- what is said of a study before and after such a record is said of it with any totals of the kinds
+pub other-read : (l : List ℕ) (c d : Core) (q k u m f k' u' m' f' : List ℕ) (x r : Record) → x ≡ r → Other r → state d q k' u' m' f' ≡ recordRead (state c q k u m f) x
+    → state (withKinds d l) q k' u' m' f' ≡ recordRead (state (withKinds c l) q k u m f) x
+unfolding kinded
+other-read l c d q k u m f k' u' m' f' x r h o e = ap (kinded l) e ∙ kinds-stay l (state c q k u m f) x (rw h o)
