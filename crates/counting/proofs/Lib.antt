@@ -1,1 +1,1 @@
-pub mod KindLaws
+pub mod KindTotalLaws

@@ -1,6 +1,6 @@
 // The totals of a study.
 ghost use mathlib.Core.Path.{_≡_};
-ghost use Prim.Native.Nat.{ℕ, _+_, _<_, min};
+ghost use Prim.Native.Nat.{ℕ, _<_};
 ghost use lib.ListN.{length, getD};
 ghost use Rattle.model.specs.Machine.{kindGrown, studyTally};
 ghost use Rattle.counting.specs.Kinds.{kindsOf, tallyWith};

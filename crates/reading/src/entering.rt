@@ -6,7 +6,8 @@ ghost use lib.ListN.{length};
 ghost use Rattle.numeric.specs.Choice.{pick};
 ghost use Rattle.model.specs.Verdict.{decode};
 ghost use Rattle.state.specs.declared.Tally.{Tally};
-ghost use Rattle.model.specs.Machine.{core, state, store, recordRead, cleared, body, step};
+ghost use Rattle.model.specs.Machine.{core, state, store, grown, recordRead, cleared, body, step};
+ghost use Rattle.reading.specs.Entering.{readingWith, pendingWith, wholeIn, wholeWith};
 use crate::begin;
 use crate::core_reading;
 use crate::grow;
@@ -37,6 +38,9 @@ pub struct Entered {
 fn enter_more(c: Core, b: u8, p: &mut [u8; 16]) -> Entered
     ensures { λ r. ⌜ length (now (p .exit)) ≡ length (now (p .entry)) ⌝ }
     ensures { λ r. ⌜ ((g : Tally → Tally) (k s m f : List ℕ) → body (state (core (c .reading) (c .counts) (c .branch) (g (c .tally))) (now (p .entry)) k s m f) b ≡ pick (r .whole) (cleared (recordRead (state (core (r .core .reading) (r .core .counts) (r .core .branch) (g (r .core .tally))) (now (p .exit)) k s m f) (decode (now (p .exit))))) (state (core (r .core .reading) (r .core .counts) (r .core .branch) (g (r .core .tally))) (now (p .exit)) k s m f)) ⌝ }
+    ensures { λ r. ⌜ r .core ≡ core (grown (c .reading)) (c .counts) (c .branch) (c .tally) ⌝ }
+    ensures { λ r. ⌜ now (p .exit) ≡ store 16 (now (p .entry)) (c .reading .have) b ⌝ }
+    ensures { λ r. ⌜ r .whole ≡ wholeIn (c .reading) (store 16 (now (p .entry)) (c .reading .have) b) ⌝ }
 {
     let h = c.reading;
     put_pending(p, h.have, b);
@@ -58,6 +62,9 @@ fn enter_more(c: Core, b: u8, p: &mut [u8; 16]) -> Entered
 pub fn enter_byte(c: Core, b: u8, p: &mut [u8; 16]) -> Entered
     ensures { λ r. ⌜ length (now (p .exit)) ≡ length (now (p .entry)) ⌝ }
     ensures { λ r. ⌜ ((g : Tally → Tally) (k s m f : List ℕ) → step (state (core (c .reading) (c .counts) (c .branch) (g (c .tally))) (now (p .entry)) k s m f) b ≡ pick (r .whole) (cleared (recordRead (state (core (r .core .reading) (r .core .counts) (r .core .branch) (g (r .core .tally))) (now (p .exit)) k s m f) (decode (now (p .exit))))) (state (core (r .core .reading) (r .core .counts) (r .core .branch) (g (r .core .tally))) (now (p .exit)) k s m f)) ⌝ }
+    ensures { λ r. ⌜ r .core ≡ core (readingWith (c .reading) b) (c .counts) (c .branch) (c .tally) ⌝ }
+    ensures { λ r. ⌜ now (p .exit) ≡ pendingWith (c .reading) (now (p .entry)) b ⌝ }
+    ensures { λ r. ⌜ r .whole ≡ wholeWith (c .reading) (now (p .entry)) b ⌝ }
 {
     let h = c.reading;
     if h.phase == 0 {

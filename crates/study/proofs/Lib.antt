@@ -3,4 +3,4 @@ pub mod LoopLaws
 pub mod SpanLaws
 pub mod RecordLaws
 pub mod FollowLaws
-pub mod KindLaws
+pub mod KindTotalLaws

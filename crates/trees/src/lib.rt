@@ -96,9 +96,10 @@ pub fn take_branching(c: Core, p: &[u8], stack: &mut [u64; 9]) -> Core
     counting::core_branching(c)
 }
 
-// The lent array has the totals of the kinds; those in the core are old.
+// The lent array has the totals of the kinds; those in the core are old, and stay.
 pub fn take_outcome(c: Core, p: &[u8], stack: &[u64; 9], kinds: &mut [u64; 6]) -> Core
     ensures { λ r. ⌜ withKinds r (now (kinds .exit)) ≡ core (taken (c .reading) 0) (oneRecord (c .counts)) (outcomeBranch (c .branch) (top (now (stack .entry)) (c .branch .height)) (field (now (p .entry)) 1 1) (field (now (p .entry)) 2 2)) (outcomeTally (withKinds c (now (kinds .entry)) .tally) (field (now (p .entry)) 1 1) (frequencyOf (top (now (stack .entry)) (c .branch .height)))) ⌝ }
+    ensures { λ r. ⌜ r .tally ≡ c .tally ⌝ }
 {
     let kind = decoding::byte_at_1(p);
     let effects = decoding::half_at_2(p);

@@ -17,13 +17,15 @@ core-outcome-requires : tie.Need-core-outcome-requires
 core-outcome-requires c κs = search needs
 
 returns : tie.Need-returns
-returns c =
-    rw (
-      ← c .before .before .next-tree .ensures,
-      ← c .before .before .before .before .half-at-2 .ensures,
-      ← c .before .before .before .before .before .byte-at-1 .ensures,
-    )
-    (c .core-outcome .ensures)
+returns c = (
+  rw (
+    ← c .before .before .next-tree .ensures,
+    ← c .before .before .before .before .half-at-2 .ensures,
+    ← c .before .before .before .before .before .byte-at-1 .ensures,
+  )
+      (c .core-outcome .ensures .0),
+  c .core-outcome .ensures .1,
+)
 
 pub take-outcome-spec : {M : Type 1} → statement M
 take-outcome-spec =

@@ -1,6 +1,6 @@
 -- `counting::tallies::grow_kind` meets its contract. Assumes nothing.
 use native.Mathlib.Omega.{arith}
-use Rattle.counting.proofs.KindLaws.{kind-set, kind-none}
+use Rattle.counting.proofs.KindTotalLaws.{kind-set, kind-none}
 use borrow.Author.Needs.{needs}
 use Rattle.counting.proofs.tallies.grow_kind.Statement.{statement}
 use Rattle.counting.proofs.tallies.grow_kind.Tie as tie

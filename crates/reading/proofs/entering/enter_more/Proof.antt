@@ -2,6 +2,7 @@
 use mathlib.Core.Path.{refl, sym}
 use Rattle.numeric.proofs.ChoiceLaws.{gt-case, le-case}
 use Rattle.model.specs.Machine.{body, ended}
+use Rattle.reading.specs.Entering.{wholeIn}
 use borrow.Author.Needs.{needs}
 use Rattle.reading.proofs.EnterLaws.{store-wide}
 use Rattle.reading.proofs.entering.enter_more.Statement.{statement}
@@ -26,22 +27,34 @@ one-less-requires : tie.Need-one-less-requires
 one-less-requires c κs = search needs
 
 returns : tie.Need-returns
-unfolding body ended
-returns c = (
-  rw (c .before .before .before .before .before .before .put-pending .ensures) (store-wide _ _ _),
-  λ g k s m f.
-      rw (c .before .before .before .before .core-reading .ensures, ← c .before .before .before .before .before .before .put-pending .ensures, ← c .before .before .before .before .before .grow .ensures)
-      (sym (le-case _ _ _ _ (rw (← c .before .before .body-length .ensures, ← c .before .one-less .ensures) (c .if1 .taken)) refl)),
-)
+unfolding body ended wholeIn
+returns c =
+    let p = c .before .before .before .before .before .before .put-pending .ensures in
+    let g = c .before .before .before .before .before .grow .ensures in
+    let d = c .before .before .before .before .core-reading .ensures in
+    let b = c .before .before .body-length .ensures in
+    let o = c .before .one-less .ensures in (
+      rw p (store-wide _ _ _),
+      (
+        λ y k s m f. rw (d, ← p, ← g) (sym (le-case _ _ _ _ (rw (← b, ← o) (c .if1 .taken)) refl)),
+        (rw (d, g) refl, (p, rw (← p, ← g) (le-case _ _ _ _ (rw (← b, ← o) (c .if1 .taken)) refl))),
+      ),
+    )
 
 returns-2 : tie.Need-returns-2
-unfolding body ended
-returns-2 c = (
-  rw (c .before .before .before .before .before .before .put-pending .ensures) (store-wide _ _ _),
-  λ g k s m f.
-      rw (c .before .before .before .before .core-reading .ensures, ← c .before .before .before .before .before .before .put-pending .ensures, ← c .before .before .before .before .before .grow .ensures)
-      (sym (gt-case _ _ _ _ (rw (← c .before .before .body-length .ensures, ← c .before .one-less .ensures) (c .if1 .left)) refl)),
-)
+unfolding body ended wholeIn
+returns-2 c =
+    let p = c .before .before .before .before .before .before .put-pending .ensures in
+    let g = c .before .before .before .before .before .grow .ensures in
+    let d = c .before .before .before .before .core-reading .ensures in
+    let b = c .before .before .body-length .ensures in
+    let o = c .before .one-less .ensures in (
+      rw p (store-wide _ _ _),
+      (
+        λ y k s m f. rw (d, ← p, ← g) (sym (gt-case _ _ _ _ (rw (← b, ← o) (c .if1 .left)) refl)),
+        (rw (d, g) refl, (p, rw (← p, ← g) (gt-case _ _ _ _ (rw (← b, ← o) (c .if1 .left)) refl))),
+      ),
+    )
 
 pub enter-more-spec : {M : Type 1} → statement M
 enter-more-spec =

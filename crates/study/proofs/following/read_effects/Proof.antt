@@ -17,7 +17,7 @@ use Rattle.study.specs.Following.{coreAfter}
 use Rattle.study.specs.Spans.{lengthOf}
 use Rattle.study.proofs.RecordLaws.{place-refused, own-refused}
 use Rattle.study.proofs.SpanLaws.{effect-length, read-alone, records-alone}
-use Rattle.study.proofs.KindLaws.{Other, other-read}
+use Rattle.study.proofs.KindTotalLaws.{Other, other-read}
 use Rattle.study.proofs.FollowLaws.{Free, begin, effects-read, unsound-fault, with-kinds}
 use borrow.Author.Needs.{needs}
 use Rattle.study.proofs.following.read_effects.Statement.{statement}

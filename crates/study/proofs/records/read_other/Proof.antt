@@ -4,7 +4,7 @@ use Prim.Native.Nat.{ℕ, _+_}
 use Rattle.model.specs.Format.{closingRec}
 use Rattle.model.specs.Verdict.{bodyLength, decode, field}
 use Rattle.decoding.proofs.DecodeLaws.{decode-opening, decode-target, decode-leak, decode-branching, decode-outcome, decode-closing}
-use Rattle.study.proofs.KindLaws.{Other, other-read}
+use Rattle.study.proofs.KindTotalLaws.{Other, other-read}
 use borrow.Author.Needs.{needs}
 use Rattle.study.proofs.records.read_other.Statement.{statement}
 use Rattle.study.proofs.records.read_other.Tie as tie

@@ -47,7 +47,7 @@ returns-3 c q s m f =
     let a = p .before .before in
     rw (a .pre)
     (without-fault (state (withKinds (a .args .c) (a .args .kinds .now)) q (a .args .stack .now) s m f) _ _ _ (p .place-fault .ensures) (c .before .before .before .before .if1 .left) (c .before .before .before .own-outcome .ensures) (c .before .before .if2 .left)
-    (ap (λ (x : Core). state x q (a .args .stack .now) s m f) (c .take-outcome .ensures)))
+    (ap (λ (x : Core). state x q (a .args .stack .now) s m f) (c .take-outcome .ensures .0)))
 
 pub read-outcome-spec : {M : Type 1} → statement M
 read-outcome-spec =

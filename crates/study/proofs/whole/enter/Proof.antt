@@ -19,7 +19,7 @@ enter-byte-requires : tie.Need-enter-byte-requires
 enter-byte-requires c κs = search needs
 
 returns-2 : tie.Need-returns-2
-returns-2 c = (c .enter-byte .ensures .0, (λ z. absurd (subst T (sym z ∙ c .before .before .before .if1 .left) tt), λ z l. c .enter-byte .ensures .1 (tallyWith l)))
+returns-2 c = (c .enter-byte .ensures .0, (λ z. absurd (subst T (sym z ∙ c .before .before .before .if1 .left) tt), λ z l. c .enter-byte .ensures .1 .0 (tallyWith l)))
 
 pub enter-spec : {M : Type 1} → statement M
 enter-spec =
