@@ -12,8 +12,9 @@ use Rattle.numeric.specs.Choice.{pick}
 use Rattle.state.specs.declared.Branch.{Branch}
 use Rattle.model.specs.Verdict.{field}
 use Rattle.model.specs.Machine.{upTo, most32, store, rowOf, rowAfter}
-use Rattle.targets.specs.Judging.{judgedIn}
+use Rattle.effects.specs.Judging.{judgedIn}
 use Rattle.effects.specs.Effects.{Figures, figures, afterEffect, afterEffects, sound}
+use Rattle.effects.specs.Steps.{Added, Taking, nextIn}
 
 -- sixteen bytes have every field of an effect
 field-window : (l : List ℕ) (i n : ℕ) → i + n ≤ 16 → field (take 16 l) i n ≡ field l i n
@@ -40,7 +41,7 @@ unfolding afterEffects
 effects-more b g h l n e = rw (add-one, e) refl
 
 -- an effect's parts, one by one
-pub effect-parts : (b : Branch) (g : Figures) (p s m f : List ℕ) (x u : ℕ) (j : Bool) → x ≡ field p 1 2 + 1 → u ≡ upTo most32 (g .unjudged) (pick j 0 1)
+effect-parts : (b : Branch) (g : Figures) (p s m f : List ℕ) (x u : ℕ) (j : Bool) → x ≡ field p 1 2 + 1 → u ≡ upTo most32 (g .unjudged) (pick j 0 1)
     → j ≡ judgedIn (g .facts) (b .kind) p .judged
     → s ≡ store 256 (g .sums) (field p 1 2) (rowAfter (rowOf (g .sums) (g .margins) (g .facts) (field p 1 2)) b (judgedIn (g .facts) (b .kind) p .chance) .sum)
     → m ≡ store 256 (g .margins) (field p 1 2) (rowAfter (rowOf (g .sums) (g .margins) (g .facts) (field p 1 2)) b (judgedIn (g .facts) (b .kind) p .chance) .margin)
@@ -78,6 +79,28 @@ sound-more targets b g l n h e i w = go (ℕ-discrete i n)
 pub more-missed : (b m x y : ℕ) → y ≡ m + x → upTo most32 b y ≡ upTo most32 (upTo most32 b m) x
 more-missed b m x y e = omega arith
 
-pub missed-within : (m n : ℕ) (j : Bool) (y : ℕ) → m ≤ n → y ≡ m + pick j 0 1 → y ≤ n + 1
-missed-within m n true y h e = omega arith
-missed-within m n false y h e = omega arith
+-- an effect that was taken, and one that was not
+step-known : (t : Bool) (x y : ℕ) → x ≡ pick t (y + 1) 0 → (x ≡ 0 → ⊥) → t ≡ true
+step-known true x y e n = refl
+step-known false x y e n = absurd (n e)
+
+step-unknown : (t : Bool) (x y : ℕ) → x ≡ pick t (y + 1) 0 → x ≡ 0 → t ≡ false
+step-unknown true x y e z = let w : ⊥ = omega arith in absurd w
+step-unknown false x y e z = refl
+
+module _ (targets : ℕ) (b : Branch) (x : ℕ) (p : List ℕ) (r : ℕ) (next : r ≡ nextIn targets b x p) where
+  pub step-sound : (r ≡ 0 → ⊥) → sound targets (b .kind) x p ≡ true
+  step-sound n = step-known (sound targets (b .kind) x p) r (field p 1 2) next n
+
+  pub step-unsound : r ≡ 0 → sound targets (b .kind) x p ≡ false
+  step-unsound z = step-unknown (sound targets (b .kind) x p) r (field p 1 2) next z
+
+  -- what it leaves
+  pub step-parts : {s m f s' m' f' : List ℕ} {missed : ℕ} (u v : ℕ) → (r ≡ 0 → ⊥) → v ≡ upTo most32 u missed → Taking targets b x p s m f missed s' m' f' → figures r v s' m' f' ≡ afterEffect b (figures x u s m f) p
+  step-parts u v n e t =
+      let a = t .taken (step-sound n) in
+      let z : r ≡ field p 1 2 + 1 = next ∙ ap (λ (y : Bool). pick y (field p 1 2 + 1) 0) (step-sound n) in
+      effect-parts b (figures x u _ _ _) p _ _ _ r v _ z (e ∙ ap (upTo most32 u) (a .judging)) refl (a .sums) (a .margins) (a .facts)
+
+  pub step-left : {s m f s' m' f' : List ℕ} {missed : ℕ} (u : ℕ) → r ≡ 0 → Taking targets b x p s m f missed s' m' f' → figures x u s' m' f' ≡ figures x u s m f
+  step-left u z t = let a = t .left (step-unsound z) in rw (a .0, a .1, a .2) refl

@@ -8,7 +8,7 @@ use Rattle.state.specs.declared.Branch.{Branch}
 use Rattle.model.specs.Faults.{effectFault}
 use Rattle.model.specs.Verdict.{field}
 use Rattle.model.specs.Machine.{upTo, most32, store, rowOf, rowAfter}
-use Rattle.targets.specs.Judging.{judgedIn}
+use Rattle.effects.specs.Judging.{judgedIn}
 
 -- the least target that the next effect may name, the effects so far that no rule judged, and the figures of the targets
 pub record Figures : Type 0 where

@@ -1,14 +1,18 @@
 // The effects of an outcome, taken one after the other while none has a fault.
 ghost use mathlib.Core.Path.{_≡_};
 ghost use mathlib.Core.Bool.{true, false};
+ghost use mathlib.Core.Logic.{_⊎_};
 ghost use Prim.Native.Nat.{ℕ, _+_, _-_, _*_, _/_, _<_, _≤_, min};
-ghost use lib.ListN.{length, drop};
+ghost use lib.ListN.{length, getD, drop};
 ghost use Rattle.log2.specs.Logarithm.{Thresholds};
 ghost use Rattle.probit.specs.Table.{RowsReached};
-ghost use Rattle.numeric.specs.Choice.{pick};
-ghost use Rattle.model.specs.Verdict.{field};
-ghost use Rattle.model.specs.Machine.{upTo, most32};
+ghost use Rattle.terms.specs.Terms.{fireball, flashFire, explosion};
+ghost use Rattle.numeric.specs.Choice.{ifEq};
+ghost use Rattle.model.specs.Faults.{effectFault};
+ghost use Rattle.model.specs.Machine.{upTo, most32, most64, store, markedFacts};
+ghost use Rattle.numeric.specs.Share.{shareOf};
 ghost use Rattle.effects.specs.Effects.{figures, afterEffects, sound};
+ghost use Rattle.effects.specs.Steps.{Added, Taking, nextIn};
 use state::Branch;
 
 // How many effects were taken, the least target that the next one may name, and the effects of the study so far that no rule judged.
@@ -16,6 +20,12 @@ pub struct Taken {
     pub count: usize,
     pub next: u32,
     pub unjudged: u32,
+}
+
+// An effect: the least target that the next one may name, and 1 where no rule judged it. Both are 0 where it is not taken.
+struct Step {
+    pub missed: u64,
+    pub next: u32,
 }
 
 // How many effects begin where sixteen bytes are there to read one in.
@@ -34,39 +44,292 @@ fn least(x: usize, y: usize) -> usize
     if x <= y { x } else { y }
 }
 
-// Whether an effect without a fault of its own begins here.
-fn sound_here(targets: u16, kind: u8, next: u32, p: &[u8]) -> bool
-    ensures { λ r. ⌜ r ≡ sound targets kind next (now (p .entry)) ⌝ }
+// The targets that have a row.
+fn with_row(targets: u16) -> u16
+    ensures { λ r. ⌜ r ≡ min targets 256 ⌝ }
 {
-    if decoding::kind(p) == 6 {
-        if faults::own_effect(targets, kind, next, p) == 0 {
-            return true;
-        }
-        return false;
+    if targets < 256 { targets } else { 256 }
+}
+
+// Whether a fire has a rule for targets of a class: places of people, atmospheric vessels and pipes.
+fn burns(class: u8) -> bool
+    ensures { λ r. ⌜ (r ≡ false → (class ≡ 0 → ⊥) × (class ≡ 1 → ⊥) × (class ≡ 5 → ⊥)) ⌝ }
+    ensures { λ r. ⌜ (r ≡ true → (class < 2) ⊎ (class ≡ 5)) ⌝ }
+{
+    if class == 0 {
+        return true;
+    }
+    if class == 1 {
+        return true;
+    }
+    if class == 5 {
+        return true;
     }
     false
 }
 
-// The least target that may follow an effect's.
-fn next_after(p: &[u8]) -> u32
-    ensures { λ r. ⌜ r ≡ field (now (p .entry)) 1 2 + 1 ⌝ }
+fn add_margin(b: Branch, i: usize, margins: &mut [u32; 256])
+    requires { ⌜ i < 256 ⌝ }
+    ensures { λ _. ⌜ now (margins .exit) ≡ store 256 (now (margins .entry)) i (upTo most32 (getD (now (margins .entry)) i 0) (b .above + 1)) ⌝ }
 {
-    (decoding::half_at_1(p) as u32) + 1
+    margins[i] = rows::margin_after(margins[i], b.above);
 }
 
-// The effects of this outcome that no rule judged: one more, or as many as before.
-fn missed_after(missed: usize, judged: bool) -> usize
-    requires { ⌜ missed < 18446744073709551615 ⌝ }
-    ensures { λ r. ⌜ r ≡ missed + pick judged 0 1 ⌝ }
+// The sum and the mark of a target with these facts, after an effect of a chance.
+fn add_chance(
+    b: Branch,
+    i: usize,
+    known: u64,
+    chance: u32,
+    sums: &mut [u64; 256],
+    facts: &mut [u64; 256],
+)
+    requires { ⌜ i < 256 ⌝ }
+    ensures { λ _. ⌜ now (sums .exit) ≡ store 256 (now (sums .entry)) i (upTo most64 (getD (now (sums .entry)) i 0) (shareOf (b .frequency) chance)) ⌝ }
+    ensures { λ _. ⌜ now (facts .exit) ≡ store 256 (now (facts .entry)) i (markedFacts known chance (b .leak)) ⌝ }
 {
-    if judged {
-        return missed;
+    sums[i] = rows::sum_after(sums[i], b.frequency, chance);
+    facts[i] = rows::mark(known, chance, b.leak);
+}
+
+// A sum that is kept is within its width.
+fn as_kept(sum: u64) -> u64
+    ensures { λ r. ⌜ (r ≡ sum) × (r ≤ most64) ⌝ }
+{
+    sum
+}
+
+// An effect of a fire on a target that has a row, and whether no rule judged it. Where none has a rule the margin alone grows.
+fn fire_row(
+    table: &[u32; 256],
+    rows: &[u32; 544],
+    b: Branch,
+    i: usize,
+    q: u32,
+    d: u16,
+    sums: &mut [u64; 256],
+    margins: &mut [u32; 256],
+    facts: &mut [u64; 256],
+) -> u64
+    requires { ⌜ (i < 256) × (b .kind ≤ fireball) ⌝ }
+    ensures { λ r. ⌜ (Thresholds (now (table .entry)) → RowsReached (now (rows .entry)) → Added b i q d (now (sums .entry)) (now (margins .entry)) (now (facts .entry)) r (now (sums .exit)) (now (margins .exit)) (now (facts .exit))) ⌝ }
+    ensures { λ r. ⌜ r ≤ 1 ⌝ }
+{
+    add_margin(b, i, margins);
+    let known = facts[i];
+    let sum = as_kept(sums[i]);
+    let target = rows::unpack_facts(known);
+    if b.kind == 0 {
+        return 0;
     }
-    missed + 1
+    if burns(target.class) {
+        let chance = vulnerability::fire(table, rows, target, q, d);
+        add_chance(b, i, known, chance, sums, facts);
+        return 0;
+    }
+    if target.class <= 4 { 1 } else { 0 }
+}
+
+// That of a flash fire, which harms people alone.
+fn flash_row(
+    b: Branch,
+    i: usize,
+    q: u32,
+    d: u16,
+    sums: &mut [u64; 256],
+    margins: &mut [u32; 256],
+    facts: &mut [u64; 256],
+)
+    requires { ⌜ (i < 256) × (b .kind ≡ flashFire) ⌝ }
+    ensures { λ _. ⌜ Added b i q d (now (sums .entry)) (now (margins .entry)) (now (facts .entry)) 0 (now (sums .exit)) (now (margins .exit)) (now (facts .exit)) ⌝ }
+{
+    add_margin(b, i, margins);
+    let known = facts[i];
+    let sum = as_kept(sums[i]);
+    let target = rows::unpack_facts(known);
+    if target.class == 0 {
+        let chance = vulnerability::flash(target, q);
+        add_chance(b, i, known, chance, sums, facts);
+    }
+}
+
+// That of an explosion.
+fn blast_row(
+    table: &[u32; 256],
+    rows: &[u32; 544],
+    b: Branch,
+    i: usize,
+    q: u32,
+    d: u16,
+    sums: &mut [u64; 256],
+    margins: &mut [u32; 256],
+    facts: &mut [u64; 256],
+)
+    requires { ⌜ (i < 256) × (flashFire < b .kind) ⌝ }
+    ensures { λ _. ⌜ (Thresholds (now (table .entry)) → RowsReached (now (rows .entry)) → Added b i q d (now (sums .entry)) (now (margins .entry)) (now (facts .entry)) 0 (now (sums .exit)) (now (margins .exit)) (now (facts .exit))) ⌝ }
+{
+    add_margin(b, i, margins);
+    let known = facts[i];
+    let sum = as_kept(sums[i]);
+    let target = rows::unpack_facts(known);
+    if b.kind == 5 {
+        let chance = vulnerability::blast(table, rows, target, q);
+        add_chance(b, i, known, chance, sums, facts);
+    }
+}
+
+// An effect on a target that has no row, if it has no fault: such a target counts as a place of people, and nothing of it is kept.
+fn past_rows(targets: u16, kind: u8, next: u32, t: u16, q: u32, d: u16) -> Step
+    ensures { λ r. ⌜ (r .next ≡ ifEq (effectFault targets kind next t q d) 0 (t + 1) 0) × (r .missed ≡ 0) ⌝ }
+{
+    if faults::effect_fault(targets, kind, next, t, q, d) == 0 {
+        return Step {
+            next: (t as u32) + 1,
+            missed: 0,
+        };
+    }
+    Step { next: 0, missed: 0 }
+}
+
+// The effect that the bytes begin with, if it has no fault of its own, in an outcome of each form. Of the declared targets at most 256 have a row.
+fn fire(
+    table: &[u32; 256],
+    rows: &[u32; 544],
+    b: Branch,
+    targets: u16,
+    limit: u16,
+    next: u32,
+    p: &[u8],
+    sums: &mut [u64; 256],
+    margins: &mut [u32; 256],
+    facts: &mut [u64; 256],
+) -> Step
+    requires { ⌜ (limit ≡ min targets 256) × (getD (now p) 0 0 ≡ 6) × (b .kind ≤ fireball) ⌝ }
+    ensures { λ r. ⌜ (r .next ≡ nextIn targets b next (now (p .entry))) × (r .missed ≤ 1) ⌝ }
+    ensures { λ r. ⌜ (Thresholds (now (table .entry)) → RowsReached (now (rows .entry)) → Taking targets b next (now (p .entry)) (now (sums .entry)) (now (margins .entry)) (now (facts .entry)) (r .missed) (now (sums .exit)) (now (margins .exit)) (now (facts .exit))) ⌝ }
+{
+    let t = decoding::half_at_1(p);
+    let q = decoding::word_at_3(p);
+    let d = decoding::half_at_7(p);
+    if faults::effect_fault(limit, b.kind, next, t, q, d) == 0 {
+        let missed = fire_row(table, rows, b, t as usize, q, d, sums, margins, facts);
+        return Step {
+            next: (t as u32) + 1,
+            missed: missed,
+        };
+    }
+    past_rows(targets, b.kind, next, t, q, d)
+}
+
+fn flash(
+    b: Branch,
+    targets: u16,
+    limit: u16,
+    next: u32,
+    p: &[u8],
+    sums: &mut [u64; 256],
+    margins: &mut [u32; 256],
+    facts: &mut [u64; 256],
+) -> Step
+    requires { ⌜ (limit ≡ min targets 256) × (getD (now p) 0 0 ≡ 6) × (b .kind ≡ flashFire) ⌝ }
+    ensures { λ r. ⌜ (r .next ≡ nextIn targets b next (now (p .entry))) × (r .missed ≤ 1) ⌝ }
+    ensures { λ r. ⌜ (Taking targets b next (now (p .entry)) (now (sums .entry)) (now (margins .entry)) (now (facts .entry)) (r .missed) (now (sums .exit)) (now (margins .exit)) (now (facts .exit))) ⌝ }
+{
+    let t = decoding::half_at_1(p);
+    let q = decoding::word_at_3(p);
+    let d = decoding::half_at_7(p);
+    if faults::effect_fault(limit, b.kind, next, t, q, d) == 0 {
+        flash_row(b, t as usize, q, d, sums, margins, facts);
+        return Step {
+            next: (t as u32) + 1,
+            missed: 0,
+        };
+    }
+    past_rows(targets, b.kind, next, t, q, d)
+}
+
+fn blast(
+    table: &[u32; 256],
+    rows: &[u32; 544],
+    b: Branch,
+    targets: u16,
+    limit: u16,
+    next: u32,
+    p: &[u8],
+    sums: &mut [u64; 256],
+    margins: &mut [u32; 256],
+    facts: &mut [u64; 256],
+) -> Step
+    requires { ⌜ (limit ≡ min targets 256) × (getD (now p) 0 0 ≡ 6) × (flashFire < b .kind) ⌝ }
+    ensures { λ r. ⌜ (r .next ≡ nextIn targets b next (now (p .entry))) × (r .missed ≤ 1) ⌝ }
+    ensures { λ r. ⌜ (Thresholds (now (table .entry)) → RowsReached (now (rows .entry)) → Taking targets b next (now (p .entry)) (now (sums .entry)) (now (margins .entry)) (now (facts .entry)) (r .missed) (now (sums .exit)) (now (margins .exit)) (now (facts .exit))) ⌝ }
+{
+    let t = decoding::half_at_1(p);
+    let q = decoding::word_at_3(p);
+    let d = decoding::half_at_7(p);
+    if faults::effect_fault(limit, b.kind, next, t, q, d) == 0 {
+        blast_row(table, rows, b, t as usize, q, d, sums, margins, facts);
+        return Step {
+            next: (t as u32) + 1,
+            missed: 0,
+        };
+    }
+    past_rows(targets, b.kind, next, t, q, d)
+}
+
+// The kind of the outcome is asked first: it is the same for all effects of a loop.
+fn take_one(
+    table: &[u32; 256],
+    rows: &[u32; 544],
+    b: Branch,
+    targets: u16,
+    limit: u16,
+    next: u32,
+    p: &[u8],
+    sums: &mut [u64; 256],
+    margins: &mut [u32; 256],
+    facts: &mut [u64; 256],
+) -> Step
+    requires { ⌜ (limit ≡ min targets 256) ⌝ }
+    ensures { λ r. ⌜ (r .next ≡ nextIn targets b next (now (p .entry))) × (r .missed ≤ 1) ⌝ }
+    ensures { λ r. ⌜ (Thresholds (now (table .entry)) → RowsReached (now (rows .entry)) → Taking targets b next (now (p .entry)) (now (sums .entry)) (now (margins .entry)) (now (facts .entry)) (r .missed) (now (sums .exit)) (now (margins .exit)) (now (facts .exit))) ⌝ }
+{
+    if decoding::kind(p) == 6 {
+        if b.kind <= 3 {
+            return fire(
+                table,
+                rows,
+                b,
+                targets,
+                limit,
+                next,
+                p,
+                sums,
+                margins,
+                facts,
+            );
+        }
+        if b.kind == 4 {
+            return flash(b, targets, limit, next, p, sums, margins, facts);
+        }
+        return blast(
+            table,
+            rows,
+            b,
+            targets,
+            limit,
+            next,
+            p,
+            sums,
+            margins,
+            facts,
+        );
+    }
+    Step { next: 0, missed: 0 }
 }
 
 // Those of the study.
-fn unjudged_after(before: u32, missed: usize) -> u32
+fn unjudged_after(before: u32, missed: u64) -> u32
     requires { ⌜ missed ≤ most32 ⌝ }
     ensures { λ r. ⌜ r ≡ upTo most32 before missed ⌝ }
 {
@@ -76,7 +339,7 @@ fn unjudged_after(before: u32, missed: usize) -> u32
 // Takes the effects that the bytes begin with, in an outcome's branch, up to the first that is unsound.
 pub fn take_effects(
     table: &[u32; 256],
-    rows: &[u8; 544],
+    rows: &[u32; 544],
     b: Branch,
     targets: u16,
     most: u32,
@@ -92,16 +355,28 @@ pub fn take_effects(
     ensures { λ r. ⌜ (r .count < min most ((length (now (bytes .entry)) - 7) / 9) → sound targets (b .kind) (r .next) (drop (r .count * 9) (now (bytes .entry))) ≡ false) ⌝ }
 {
     let top = least(most as usize, room(bytes.len()));
+    let limit = with_row(targets);
     let mut count: usize = 0;
     let mut next = b.next;
-    let mut missed: usize = 0;
+    let mut missed: u64 = 0;
     while count < top {
         let at = count * 9;
         let p = &bytes[at..at + 16];
-        if sound_here(targets, b.kind, next, p) {
-            let judged = targets::add_effect(table, rows, b, p, sums, margins, facts);
-            next = next_after(p);
-            missed = missed_after(missed, judged);
+        let s = take_one(
+            table,
+            rows,
+            b,
+            targets,
+            limit,
+            next,
+            p,
+            sums,
+            margins,
+            facts,
+        );
+        if s.next != 0 {
+            next = s.next;
+            missed += s.missed;
             count += 1;
         } else {
             return Taken {

@@ -4,9 +4,7 @@ ghost use Prim.Native.Nat.{_+_, _*_, _/_, _^_, _<_};
 ghost use Rattle.log2.specs.Logarithm.{logarithm, Thresholds};
 ghost use Rattle.probit.specs.Table.{RowsReached};
 ghost use Rattle.probit.specs.Chance.{chanceOf};
-ghost use Rattle.terms.specs.Terms.{seconds, judgedAs};
-ghost use Rattle.equipment.specs.Damage.{blastRowOf, blastProbit, blastDamage, heatProbit, heatDamage, fireDamage, damageOf};
-use terms::Judged;
+ghost use Rattle.equipment.specs.Damage.{blastRowOf, blastProbit, blastDamage, heatProbit, heatDamage};
 
 // A row of table D.2 for explosions: what the probit takes off, its factor in hundredths, and the threshold in Pa.
 pub struct BlastRow {
@@ -58,17 +56,18 @@ fn scaled_log(table: &[u32; 256], factor: u64, n: u32, divisor: u64) -> u64
 }
 
 // The chance by the probit of an explosion.
-fn blast_chance(table: &[u32; 256], rows: &[u8; 544], row: BlastRow, pa: u32) -> u32
+fn blast_chance(table: &[u32; 256], rows: &[u32; 544], row: BlastRow, pa: u32) -> u32
     ensures { λ r. ⌜ (Thresholds (now (table .entry)) → RowsReached (now (rows .entry)) → r ≡ chanceOf (blastProbit row pa)) ⌝ }
 {
     let log = scaled_log(table, row.factor as u64, pa, 25_600);
-    probit::chance(rows, log, row.constant as u64)
+    probit::chance(rows, log, row.constant)
 }
 
-// Overpressure in Pa.
-fn blast(table: &[u32; 256], rows: &[u8; 544], row: BlastRow, pa: u32) -> u32
-    ensures { λ r. ⌜ (Thresholds (now (table .entry)) → RowsReached (now (rows .entry)) → r ≡ blastDamage row pa) ⌝ }
+// Explosion: overpressure in Pa on equipment of a class.
+pub fn blast(table: &[u32; 256], rows: &[u32; 544], class: u8, pa: u32) -> u32
+    ensures { λ r. ⌜ (Thresholds (now (table .entry)) → RowsReached (now (rows .entry)) → r ≡ blastDamage (blastRowOf class) pa) ⌝ }
 {
+    let row = blast_row(class);
     if pa < row.threshold {
         return 0;
     }
@@ -76,7 +75,7 @@ fn blast(table: &[u32; 256], rows: &[u8; 544], row: BlastRow, pa: u32) -> u32
 }
 
 // The chance by the probit of a fire.
-fn heat_chance(table: &[u32; 256], rows: &[u8; 544], q: u32, volume: u32) -> u32
+fn heat_chance(table: &[u32; 256], rows: &[u32; 544], q: u32, volume: u32) -> u32
     ensures { λ r. ⌜ (Thresholds (now (table .entry)) → RowsReached (now (rows .entry)) → r ≡ chanceOf (heatProbit q volume)) ⌝ }
 {
     let heat = scaled_log(table, 2_083_416, q, 256_000_000);
@@ -84,8 +83,15 @@ fn heat_chance(table: &[u32; 256], rows: &[u8; 544], q: u32, volume: u32) -> u32
     probit::chance(rows, heat + size, 20_094_547)
 }
 
-// Heat in W/m² on a vessel or pipe at atmospheric pressure. The time that it has to exceed goes by the clock.
-fn heat(table: &[u32; 256], rows: &[u8; 544], limit: u16, volume: u32, q: u32, duration: u16) -> u32
+// Fire: heat in W/m² on a vessel or pipe at atmospheric pressure. The time that it has to exceed goes by the clock.
+pub fn heat(
+    table: &[u32; 256],
+    rows: &[u32; 544],
+    limit: u16,
+    volume: u32,
+    q: u32,
+    duration: u16,
+) -> u32
     ensures { λ r. ⌜ (Thresholds (now (table .entry)) → RowsReached (now (rows .entry)) → r ≡ heatDamage limit volume q duration) ⌝ }
 {
     if 15_000 < q {
@@ -95,70 +101,4 @@ fn heat(table: &[u32; 256], rows: &[u8; 544], limit: u16, volume: u32, q: u32, d
         return 0;
     }
     0
-}
-
-// A fire, by class: atmospheric vessels and pipes are judged, the others not.
-fn fire(
-    table: &[u32; 256],
-    rows: &[u8; 544],
-    limit: u16,
-    class: u8,
-    volume: u32,
-    q: u32,
-    duration: u16,
-) -> Judged
-    ensures { λ r. ⌜ (Thresholds (now (table .entry)) → RowsReached (now (rows .entry)) → r ≡ fireDamage limit class volume q duration) ⌝ }
-{
-    match class {
-        1 | 5 => Judged {
-            chance: heat(table, rows, limit, volume, q, duration),
-            judged: true,
-        },
-        _ => Judged {
-            chance: 0,
-            judged: false,
-        },
-    }
-}
-
-fn none() -> Judged
-    ensures { λ r. ⌜ r ≡ judgedAs 0 ⌝ }
-{
-    Judged {
-        chance: 0,
-        judged: true,
-    }
-}
-
-// The chance of damage, by outcome kind, class, volume, intensity and duration in seconds.
-pub fn damage(
-    table: &[u32; 256],
-    rows: &[u8; 544],
-    kind: u8,
-    class: u8,
-    volume: u32,
-    intensity: u32,
-    duration: u16,
-) -> Judged
-    ensures { λ r. ⌜ (Thresholds (now (table .entry)) → RowsReached (now (rows .entry)) → r ≡ damageOf seconds kind class volume intensity duration) ⌝ }
-{
-    if class == 0 {
-        return none();
-    }
-    if 5 < class {
-        return none();
-    }
-    if kind == 0 {
-        return none();
-    }
-    if kind <= 3 {
-        return fire(table, rows, 600, class, volume, intensity, duration);
-    }
-    if kind == 5 {
-        return Judged {
-            chance: blast(table, rows, blast_row(class), intensity),
-            judged: true,
-        };
-    }
-    none()
 }

@@ -70,7 +70,8 @@ fn naming_fault(targets: u16, next: u32, t: u16) -> u8
     4
 }
 
-fn effect_fault(targets: u16, kind: u8, next: u32, t: u16, intensity: u32, duration: u16) -> u8
+// The fault of an effect but for its place.
+pub fn effect_fault(targets: u16, kind: u8, next: u32, t: u16, intensity: u32, duration: u16) -> u8
     ensures { λ r. ⌜ r ≡ effectFault targets kind next t intensity duration ⌝ }
 {
     if kind <= 3 {
@@ -91,7 +92,7 @@ fn effect_fault(targets: u16, kind: u8, next: u32, t: u16, intensity: u32, durat
     3
 }
 
-// The faults of an effect but for its place, and those of a closing.
+// The same of its bytes.
 pub fn own_effect(targets: u16, kind: u8, next: u32, p: &[u8]) -> u8
     ensures { λ r. ⌜ r ≡ effectFault targets kind next (field (now (p .entry)) 1 2) (field (now (p .entry)) 3 4) (field (now (p .entry)) 7 2) ⌝ }
 {

@@ -31,38 +31,52 @@ fn logarithm(table: &[u32; 256], n: u32) {
     word(b"\n");
 }
 
-// Outcome kind, setting, intensity, duration; chance of death.
-fn deaths(
-    table: &[u32; 256],
-    rows: &[u8; 544],
-    kind: u8,
-    setting: u8,
-    intensity: u32,
-    duration: u16,
-) {
-    let j = people::death(table, rows, kind, setting, intensity, duration);
+// The words before a chance of death: outcome kind, setting, intensity, duration.
+fn people(kind: u8, setting: u8, intensity: u32, duration: u16) {
     word(b"people");
     number(kind as u64);
     number(setting as u64);
     number(intensity as u64);
     number(duration as u64);
-    number(j.chance as u64);
+}
+
+// A place of people: setting, heat, duration in a pool fire; chance of death.
+fn fires(table: &[u32; 256], rows: &[u32; 544], setting: u8, q: u32, duration: u16) {
+    let target = Target {
+        class: 0,
+        setting: setting,
+        volume: 0,
+    };
+    people(1, setting, q, duration);
+    number(vulnerability::fire(table, rows, target, q, duration) as u64);
+    word(b"\n");
+}
+
+// Setting and overpressure in an explosion; chance of death.
+fn deaths(table: &[u32; 256], rows: &[u32; 544], setting: u8, pa: u32) {
+    let target = Target {
+        class: 0,
+        setting: setting,
+        volume: 0,
+    };
+    people(5, setting, pa, 0);
+    number(vulnerability::blast(table, rows, target, pa) as u64);
     word(b"\n");
 }
 
 // Class and overpressure; chance of damage, and whether a leak of 10^7 units puts the equipment on the domino list.
-fn blasts(table: &[u32; 256], rows: &[u8; 544], class: u8, pa: u32) {
+fn blasts(table: &[u32; 256], rows: &[u32; 544], class: u8, pa: u32) {
     let target = Target {
         class: class,
         setting: 0,
         volume: 0,
     };
-    let j = vulnerability::effect(table, rows, target, 5, pa, 0);
+    let chance = vulnerability::blast(table, rows, target, pa);
     word(b"equipment");
     number(class as u64);
     number(pa as u64);
-    number(j.chance as u64);
-    if vulnerability::listed(j.chance, 10_000_000) {
+    number(chance as u64);
+    if vulnerability::listed(chance, 10_000_000) {
         word(b" listed");
     }
     word(b"\n");
@@ -76,14 +90,14 @@ fn main() {
     logarithm(&table, 1);
     logarithm(&table, 2);
     logarithm(&table, 3);
-    deaths(&table, &rows, 1, 0, 12_500, 20);
-    deaths(&table, &rows, 1, 1, 12_500, 20);
-    deaths(&table, &rows, 1, 2, 12_500, 20);
-    deaths(&table, &rows, 1, 0, 34_999, 20);
-    deaths(&table, &rows, 1, 0, 35_000, 20);
-    deaths(&table, &rows, 5, 2, 9_999, 0);
-    deaths(&table, &rows, 5, 2, 10_000, 0);
-    deaths(&table, &rows, 5, 2, 30_000, 0);
+    fires(&table, &rows, 0, 12_500, 20);
+    fires(&table, &rows, 1, 12_500, 20);
+    fires(&table, &rows, 2, 12_500, 20);
+    fires(&table, &rows, 0, 34_999, 20);
+    fires(&table, &rows, 0, 35_000, 20);
+    deaths(&table, &rows, 2, 9_999);
+    deaths(&table, &rows, 2, 10_000);
+    deaths(&table, &rows, 2, 30_000);
     blasts(&table, &rows, 1, 67_000);
     blasts(&table, &rows, 1, 70_000);
     blasts(&table, &rows, 2, 29_999);

@@ -55,34 +55,30 @@ below-at f (suc n) t k h =
     (λ l. below-at f n (both-right (f n) (below f n) t) k l)
     (eq-or-lt-of-le (le-of-suc-le-suc h))
 
--- the least and the greatest mantissa of the nine bits b lie at step g or at the next
+-- the least and the greatest mantissa of the nine bits b lie at step g, at most 254, or at the next
 abbrev near : ℕ → ℕ → Bool
 near b g =
-    both (leb (2 ^ (31 * 256 + g)) ((2 ^ 31 + b * 2 ^ 22) ^ 256))
-    (ltb ((2 ^ 31 + b * 2 ^ 22 + (2 ^ 22 - 1)) ^ 256) (2 ^ (31 * 256 + g + 2)))
+    both (leb g 254)
+    (both (leb (2 ^ (31 * 256 + g)) ((2 ^ 31 + b * 2 ^ 22) ^ 256))
+    (ltb ((2 ^ 31 + b * 2 ^ 22 + (2 ^ 22 - 1)) ^ 256) (2 ^ (31 * 256 + g + 2))))
 
--- the cubic, and the test that it passes at all bits, up to step 254
-abbrev pub cubic : ℕ → ℕ → ℕ → ℕ → ℕ → ℕ
-cubic p a d q b = (b * p + b * (512 - b) * (a - d * b)) / q
+-- the cubic, and the test that it passes at all bits
+abbrev pub cubic : ℕ → ℕ → ℕ → ℕ → ℕ → ℕ → ℕ
+cubic k p a d q b = (k + b * (p - b * (a - d * b))) / q
 
-abbrev pub fits : ℕ → ℕ → ℕ → ℕ → Bool
-fits p a d q = below (λ b. near b (min (cubic p a d q b) 254)) 512
+abbrev pub fits : ℕ → ℕ → ℕ → ℕ → ℕ → Bool
+fits k p a d q = below (λ b. near b (cubic k p a d q b)) 512
 
-near-of : (b g : ℕ) → g ≤ 254 → T (near b g) → NearStep b g
-near-of b g h t =
+near-of : (b g : ℕ) → T (near b g) → NearStep b g
+near-of b g t =
+    let w : Bool = leb g 254 in
     let l : Bool = leb (2 ^ (31 * 256 + g)) ((2 ^ 31 + b * 2 ^ 22) ^ 256) in
     let u : Bool = ltb ((2 ^ 31 + b * 2 ^ 22 + (2 ^ 22 - 1)) ^ 256) (2 ^ (31 * 256 + g + 2)) in
-    record { within = h; low = leb→le _ _ (both-left l u t); high = ltb→lt _ _ (both-right l u t) }
+    let r = both-right w (both l u) t in
+    record { within = leb→le _ _ (both-left w (both l u) t); low = leb→le _ _ (both-left l u r); high = ltb→lt _ _ (both-right l u r) }
 
-module _ (p a d q b : ℕ) (t : T (fits p a d q)) (h : b < 512) where
-  near-at : (g : ℕ) → g ≤ 254 → min (cubic p a d q b) 254 ≡ g → NearStep b g
-  near-at g w e = near-of b g w (subst (λ (m : ℕ). T (near b m)) e (below-at (λ i. near i (min (cubic p a d q i) 254)) 512 t b h))
-
-  pub near-low : cubic p a d q b < 254 → NearStep b (cubic p a d q b)
-  near-low l = near-at (cubic p a d q b) (omega arith) (omega arith)
-
-  pub near-last : 254 ≤ cubic p a d q b → NearStep b 254
-  near-last l = near-at 254 (omega arith) (omega arith)
+pub near-at : (k p a d q b : ℕ) → T (fits k p a d q) → b < 512 → NearStep b (cubic k p a d q b)
+near-at k p a d q b t h = near-of b (cubic k p a d q b) (below-at (λ i. near i (cubic k p a d q i)) 512 t b h)
 
 -- a mantissa lies at the near step where it is below the next threshold, and else at the next step
 module _ (l : List ℕ) (b g m : ℕ) (t : Thresholds l) (n : NearStep b g) (lo : 2 ^ 31 + b * 2 ^ 22 ≤ m) (hi : m ≤ 2 ^ 31 + b * 2 ^ 22 + (2 ^ 22 - 1)) where

@@ -275,8 +275,8 @@ fn near_step(bits: u64) -> u64
     requires { ⌜ bits < 512 ⌝ }
     ensures { λ r. ⌜ NearStep bits r ⌝ }
 {
-    let g = (bits * 134_217_728 + bits * (512 - bits) * (109_052 - 78 * bits)) / 268_435_456;
-    if g < 254 { g } else { 254 }
+    let cubic = bits * (3_021_373_171 - bits * (2_278_653 - 1_090 * bits));
+    (818_618_038 + cubic) / 4_294_967_296
 }
 
 // The step of a mantissa within its octave: the near one, or one more where the mantissa reaches the next threshold.

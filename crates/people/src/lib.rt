@@ -1,12 +1,10 @@
 // The chance of death at a place of people. The caller lends both tables: the logarithm's thresholds and the probit's rows.
 ghost use mathlib.Core.Path.{_≡_};
-ghost use Prim.Native.Nat.{_+_, _*_, _/_, _≤_, min};
+ghost use Prim.Native.Nat.{_+_, _*_, _/_, min};
 ghost use Rattle.log2.specs.Logarithm.{logarithm, Thresholds};
 ghost use Rattle.probit.specs.Table.{RowsReached};
 ghost use Rattle.probit.specs.Chance.{chanceOf};
-ghost use Rattle.terms.specs.Terms.{seconds};
-ghost use Rattle.people.specs.Death.{fireProbit, settingShare, fireDeath, flashDeath, blastDeath, deathOf};
-use terms::Judged;
+ghost use Rattle.people.specs.Death.{fireProbit, settingShare, fireDeath, flashDeath, blastDeath};
 
 // (4 L(Q) + 3 L(t)) × 693,147 / 300, rounded down.
 fn dose(table: &[u32; 256], q: u32, t: u32) -> u64
@@ -17,13 +15,12 @@ fn dose(table: &[u32; 256], q: u32, t: u32) -> u64
     (4 * heat + 3 * time) * 693_147 / 300
 }
 
-// Outdoors, 14 hundredths of the probit's chance, which is at most 1,146,000 with any tables.
+// Outdoors, 14 hundredths of the probit's chance.
 fn in_setting(setting: u8, chance: u32) -> u32
-    requires { ⌜ chance ≤ 1146000 ⌝ }
     ensures { λ r. ⌜ r ≡ settingShare setting chance ⌝ }
 {
     if setting == 1 {
-        return chance * 14 / 100;
+        return ((chance as u64) * 14 / 100) as u32;
     }
     chance
 }
@@ -35,17 +32,16 @@ fn least(x: u16, y: u16) -> u32
 }
 
 // The chance by the probit of a fire.
-fn by_probit(table: &[u32; 256], rows: &[u8; 544], constant: u32, q: u32, t: u32) -> u32
+fn by_probit(table: &[u32; 256], rows: &[u32; 544], constant: u32, q: u32, t: u32) -> u32
     ensures { λ r. ⌜ (Thresholds (now (table .entry)) → RowsReached (now (rows .entry)) → r ≡ chanceOf (fireProbit constant q t)) ⌝ }
-    ensures { λ r. ⌜ r ≤ 1146000 ⌝ }
 {
-    probit::chance(rows, dose(table, q, t), constant as u64)
+    probit::chance(rows, dose(table, q, t), constant)
 }
 
-// Heat in W/m² for a duration. The longest time that counts and the probit's constant go by the clock.
-fn fire(
+// Fire: heat in W/m² for a duration. The longest time that counts and the probit's constant go by the clock.
+pub fn fire(
     table: &[u32; 256],
-    rows: &[u8; 544],
+    rows: &[u32; 544],
     longest: u16,
     constant: u32,
     setting: u8,
@@ -68,15 +64,15 @@ fn fire(
     in_setting(setting, chance)
 }
 
-// Inside the lower flammable limit or not.
-fn flash(inside: u32) -> u32
+// Flash fire: inside the lower flammable limit or not.
+pub fn flash(inside: u32) -> u32
     ensures { λ r. ⌜ r ≡ flashDeath inside ⌝ }
 {
     if inside == 1 { 1_000_000 } else { 0 }
 }
 
-// Overpressure in Pa.
-fn blast(setting: u8, pa: u32) -> u32
+// Explosion: overpressure in Pa.
+pub fn blast(setting: u8, pa: u32) -> u32
     ensures { λ r. ⌜ r ≡ blastDeath setting pa ⌝ }
 {
     if 30_000 <= pa {
@@ -89,45 +85,4 @@ fn blast(setting: u8, pa: u32) -> u32
         return 0;
     }
     0
-}
-
-// The chance of death, by outcome kind, setting, intensity and duration in seconds.
-pub fn death(
-    table: &[u32; 256],
-    rows: &[u8; 544],
-    kind: u8,
-    setting: u8,
-    intensity: u32,
-    duration: u16,
-) -> Judged
-    ensures { λ r. ⌜ (Thresholds (now (table .entry)) → RowsReached (now (rows .entry)) → r ≡ deathOf seconds kind setting intensity duration) ⌝ }
-{
-    if kind == 0 {
-        return Judged {
-            chance: 0,
-            judged: true,
-        };
-    }
-    if kind <= 3 {
-        return Judged {
-            chance: fire(table, rows, 20, 36_380_000, setting, intensity, duration),
-            judged: true,
-        };
-    }
-    if kind == 4 {
-        return Judged {
-            chance: flash(intensity),
-            judged: true,
-        };
-    }
-    if kind == 5 {
-        return Judged {
-            chance: blast(setting, intensity),
-            judged: true,
-        };
-    }
-    Judged {
-        chance: 0,
-        judged: true,
-    }
 }

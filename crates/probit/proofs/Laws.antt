@@ -1,13 +1,13 @@
 -- Laws of the chance that a probit stands for. Assumes nothing.
 use mathlib.Core.Path.{_≡_, refl, sym, _∙_, ap, ap₂, subst}
 use mathlib.Core.Bool.{Bool, true, false}
-use mathlib.Core.List.{List, [], _∷_, _++_, List·Memᴰ, List·Memᴰ·head, List·Memᴰ·tail, List·Memᴰ·cases-cons, List·Memᴰ·not-nil}
+use mathlib.Core.List.{List, [], _∷_, _++_, map, List·Memᴰ, List·Memᴰ·head, List·Memᴰ·tail, List·Memᴰ·cases-cons, List·Memᴰ·not-nil}
 use mathlib.Core.Logic.{_⊎_, inl, inr, ⊎-elim}
 use Prim.Native.Nat.{ℕ, zero, suc, _+_, _-_, _*_, _/_, _<_, _≤_, max, min}
 use native.Mathlib.Nat.{add-zero, sub-zero, zero-max, max-zero, zero-mul, suc-mul, not-suc-le-zero, le-trans, lt-of-lt-of-le, le-of-eq, max-le}
 use native.Mathlib.Decide.{decLe}
 use native.Mathlib.Omega.{arith}
-use lib.Dec.{T, leb, ltb, leb→le, ltb→lt}
+use lib.Dec.{T, eqb, leb, ltb, eqb→eq, leb→le, ltb→lt}
 use lib.IntN.{ℤ, pos, negsuc, _-ℤ_}
 use lib.Signed.{leZ, leZ-yes, _≤ℤ_}
 use lib.ListN.{length, getD, List·getD-append}
@@ -15,7 +15,7 @@ use lib.Seq.{getD-append-add}
 use borrow.Author.Tests.{lt-ltb, le-ltb, le-leb, lt-leb}
 use Rattle.numeric.specs.Choice.{pick}
 use Rattle.numeric.proofs.TableLaws.{both, both-left, both-right, every, entry, getD-entry, at, rising}
-use Rattle.probit.specs.Table.{Row, rowsFrom, wholePercents, tenthsOfPercent, probits, probitTable, FirstRows, RowsReached}
+use Rattle.probit.specs.Table.{Row, rowsFrom, wholePercents, tenthsOfPercent, probits, probitTable, FirstRows, lastChance, LastReached, RowsReached}
 use Rattle.probit.specs.Chance.{greatestChance, chanceOf, ChanceRule}
 
 -- a difference of two naturals, by its sign
@@ -134,21 +134,33 @@ unfolding ofRows
 ofRows-tenths zero h = absurd (not-suc-le-zero h)
 ofRows-tenths (suc n) h = omega arith
 
--- up to 99 rows, a whole percent each
-pub chance-percents : (y n : ℕ) → FirstRows (y / 10000) n → n ≤ 99 → chanceOf (pos y) ≡ n * 10000
-unfolding ofRows
-chance-percents y n f h =
-    let m : min n 99 ≡ n = omega arith in
-    let d : n - 99 ≡ 0 = omega arith in
-    chance-rows y n f ∙ rw (m, d) (ap (λ (x : ℕ). max x 0) (ofRows-whole n) ∙ max-zero (n * 10000))
+-- the chance of the n-th row: up to 99 rows a whole percent each, above a tenth of a percent each
+abbrev pub rowChance : ℕ → ℕ
+rowChance n = pick (leb n 99) (n * 10000) (891000 + n * 1000)
 
--- above, a tenth of a percent each
-pub chance-tenths : (y n : ℕ) → FirstRows (y / 10000) n → 99 < n → chanceOf (pos y) ≡ 891000 + n * 1000
-chance-tenths y n f h =
-    let m : min n 99 ≡ 99 = omega arith in
-    let e = ofRows-tenths (n - 99) (omega arith) in
-    let g = ofRows-whole 99 in
-    chance-rows y n f ∙ rw m (omega arith)
+-- so says the table, by one computed test
+row-chance : (n : ℕ) → n ≤ 108 → lastChance n ≡ rowChance n
+unfolding lastChance probitTable
+row-chance zero h = refl
+row-chance (suc n) h =
+    let l : List ℕ = map (λ (r : Row). r .chance) probitTable in
+    rw (getD-entry l n) (eqb→eq _ _ (at (λ i x. eqb x (rowChance (suc i))) l tt n h))
+
+-- and so is the chance of a probit that reaches the first n rows
+chance-of-rows : (y n : ℕ) → FirstRows (y / 10000) n → chanceOf (pos y) ≡ rowChance n
+unfolding ofRows
+chance-of-rows y n f = chance-rows y n f ∙ go (decLe n 99)
+  where
+    go : Dec (n ≤ 99) → max (ofRows 10000 10000 (min n 99)) (ofRows 991000 1000 (n - 99)) ≡ rowChance n
+    go (yes h) =
+        let m : min n 99 ≡ n = omega arith in
+        let d : n - 99 ≡ 0 = omega arith in
+        rw (m, d, le-leb n 99 h) (ap (λ (x : ℕ). max x 0) (ofRows-whole n) ∙ max-zero (n * 10000))
+    go (no h) =
+        let m : min n 99 ≡ 99 = omega arith in
+        let e = ofRows-tenths (n - 99) (omega arith) in
+        let g = ofRows-whole 99 in
+        rw (m, lt-leb n 99 (omega arith)) (omega arith)
 
 -- the last of n rows is reached at h hundredths, and the next is not
 abbrev pub reaches : ℕ → ℕ → Bool
@@ -158,9 +170,17 @@ reaches h (suc m) = leb (getD probits m 0) h
 abbrev pub stops : ℕ → ℕ → Bool
 stops h n = pick (leb 108 n) true (ltb h (getD probits n 0))
 
--- the test of an entry n at place i
+-- exactly the first n rows are reached at h hundredths
+abbrev pub first : ℕ → ℕ → Bool
+first h n = both (leb n 108) (both (reaches h n) (stops h n))
+
+-- how many rows there are up to a chance
+abbrev pub rowsUpTo : ℕ → ℕ
+rowsUpTo c = pick (leb c 990000) (c / 10000) ((c - 891000) / 1000)
+
+-- the test of an entry c at place i
 abbrev pub rowsAt : ℕ → ℕ → Bool
-rowsAt i n = both (leb n 108) (both (reaches (266 + i) n) (stops (266 + i) n))
+rowsAt i c = both (first (266 + i) (rowsUpTo c)) (eqb c (rowChance (rowsUpTo c)))
 
 -- the table rises, so the other rows follow
 reached-all : (h n : ℕ) → n ≤ 108 → T (reaches h n) → (i : ℕ) → i < n → getD probits i 0 ≤ h
@@ -173,33 +193,44 @@ beyond-all h n t i k w =
     let u : T (ltb h (getD probits n 0)) = rw e at t in
     lt-of-lt-of-le (ltb→lt _ _ u) (rising probits tt n i k w)
 
-first-of : (i n : ℕ) → T (rowsAt i n) → FirstRows (266 + i) n
-first-of i n t =
-    let r : Bool = reaches (266 + i) n in
-    let s : Bool = stops (266 + i) n in
+first-of : (h n : ℕ) → T (first h n) → FirstRows h n
+first-of h n t =
+    let r : Bool = reaches h n in
+    let s : Bool = stops h n in
     let u : T (both r s) = both-right (leb n 108) (both r s) t in
     let w : n ≤ 108 = leb→le n 108 (both-left (leb n 108) (both r s) t) in
-    record { within = w; reached = reached-all (266 + i) n w (both-left r s u); beyond = beyond-all (266 + i) n (both-right r s u) }
+    record { within = w; reached = reached-all h n w (both-left r s u); beyond = beyond-all h n (both-right r s u) }
 
--- a table that passes the test at each entry has the rows reached
+last-of : (h c n : ℕ) → T (both (first h n) (eqb c (rowChance n))) → LastReached h c
+last-of h c n t =
+    let f : FirstRows h n = first-of h n (both-left (first h n) (eqb c (rowChance n)) t) in
+    let e : c ≡ rowChance n = eqb→eq c (rowChance n) (both-right (first h n) (eqb c (rowChance n)) t) in
+    record { count = n; rows = f; same = e ∙ sym (row-chance n (f .within)) }
+
+-- a table that passes the test at each entry has the chances of the rows reached
 pub rows-at : (l : List ℕ) → length l ≡ 544 → T (every rowsAt 0 l) → RowsReached l
 unfolding RowsReached
-rows-at l e t i h = rw (getD-entry l i) (first-of i (entry l i) (at rowsAt l t i (omega arith)))
+rows-at l e t i h = rw (getD-entry l i) (last-of (266 + i) (entry l i) (rowsUpTo (entry l i)) (at rowsAt l t i (omega arith)))
 
 -- no row has a probit below 267 hundredths or above 809
 row-range : (k : ℕ) → k < 108 → (267 ≤ getD probits k 0) × (getD probits k 0 ≤ 809)
 row-range k w = (rising probits tt 0 k (omega arith) w, rising probits tt k 107 (omega arith) (omega arith))
 
 -- so below the table no row is reached, and above it all are
-pub rows-found : (l : List ℕ) (y i n : ℕ) → RowsReached l → i ≡ min ((y - 2660000) / 10000) 543 → n ≡ getD l i 0 → FirstRows (y / 10000) n
-unfolding RowsReached
-rows-found l y i n t e q =
-    let f : FirstRows (266 + i) n = rw q (t i (omega arith)) in
+rows-found : (y i n : ℕ) → FirstRows (266 + i) n → i ≡ min ((y - 2660000) / 10000) 543 → FirstRows (y / 10000) n
+rows-found y i n f e =
     record {
       within = f .within;
       reached = λ k a. let w = f .within in omega (arith, f .reached k a, row-range k (omega arith));
       beyond = λ k a b. omega (arith, f .beyond k a b, row-range k b);
     }
+
+-- the entry of a probit's hundredth is its chance
+pub chance-found : (l : List ℕ) (y i : ℕ) → RowsReached l → i ≡ min ((y - 2660000) / 10000) 543 → getD l i 0 ≡ chanceOf (pos y)
+unfolding RowsReached
+chance-found l y i t e =
+    let r : LastReached (266 + i) (getD l i 0) = t i (omega arith) in
+    r .same ∙ row-chance (r .count) (r .rows .within) ∙ sym (chance-of-rows y (r .count) (rows-found y i (r .count) (r .rows) e))
 
 -- 01's words, over any rows
 None : ℤ → List Row → Type 0

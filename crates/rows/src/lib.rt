@@ -2,12 +2,7 @@
 ghost use mathlib.Core.Path.{_≡_};
 ghost use Prim.Native.Nat.{_+_};
 ghost use Rattle.numeric.specs.Share.{shareOf};
-ghost use Rattle.log2.specs.Logarithm.{Thresholds};
-ghost use Rattle.probit.specs.Table.{RowsReached};
-ghost use Rattle.terms.specs.Terms.{seconds};
-ghost use Rattle.vulnerability.specs.Effect.{effectOn};
 ghost use Rattle.model.specs.Machine.{upTo, most32, most64, packedFacts, unpackedFacts, markedFacts};
-use terms::Judged;
 use terms::Target;
 
 // A target's facts in one number, the lowest bit its mark on the domino list.
@@ -20,7 +15,7 @@ pub fn pack_facts(f: Target) -> u64
     volume * 64 + class * 8 + setting * 2
 }
 
-fn unpack_facts(x: u64) -> Target
+pub fn unpack_facts(x: u64) -> Target
     ensures { λ r. ⌜ r ≡ unpackedFacts x ⌝ }
 {
     Target {
@@ -28,21 +23,6 @@ fn unpack_facts(x: u64) -> Target
         setting: (x / 2 % 4) as u8,
         volume: (x / 64 % 4_294_967_296) as u32,
     }
-}
-
-// The chance that an outcome of a kind brings to the target with these facts, and whether a rule judged it. The tables are those of the logarithm
-// and of the probits.
-pub fn judge_effect(
-    table: &[u32; 256],
-    rows: &[u8; 544],
-    kind: u8,
-    facts: u64,
-    intensity: u32,
-    duration: u16,
-) -> Judged
-    ensures { λ r. ⌜ (Thresholds (now (table .entry)) → RowsReached (now (rows .entry)) → r ≡ effectOn seconds (unpackedFacts facts) kind intensity duration) ⌝ }
-{
-    vulnerability::effect(table, rows, unpack_facts(facts), kind, intensity, duration)
 }
 
 // Equipment is marked by an effect that lists it.

@@ -18,7 +18,7 @@ use Rattle.model.specs.Verdict.{field, decode}
 use Rattle.model.specs.Machine.{State, state, core, upTo, most32, most64, taken, oneRecord, effectBranch, effectTally, rowAfter, ownFaultIn, accepted, effectState, recordRead}
 use Rattle.counting.specs.Kinds.{withKinds}
 use Rattle.decoding.proofs.DecodeLaws.{decode-effect}
-use Rattle.targets.specs.Judging.{judgedIn}
+use Rattle.effects.specs.Judging.{judgedIn}
 use Rattle.effects.specs.Effects.{Figures, figures, afterEffect, afterEffects, sound}
 use Rattle.effects.proofs.Laws.{effects-more}
 use Rattle.study.specs.Placing.{placeFault}

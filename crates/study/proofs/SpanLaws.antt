@@ -10,7 +10,7 @@ use lib.ListN.{length, getD, take, drop, replicate, length-drop, take-append-dro
 use lib.Seq.{take-all, drop-cons, drop-drop, getD-drop, length-take-le, take-add}
 use lib.Dec.{T}
 use Rattle.numeric.specs.Choice.{pick, ifEq}
-use Rattle.numeric.proofs.ChoiceLaws.{picked-first, picked-second, eq-both, le-both}
+use Rattle.numeric.proofs.ChoiceLaws.{picked-first, picked-second, eq-both, le-both, eq-second}
 use Rattle.state.specs.declared.Core.{Core}
 use Rattle.state.specs.declared.Reading.{Reading}
 use Rattle.model.specs.Verdict.{bodyLength, decode}
@@ -94,6 +94,24 @@ rest l i = take (length l - i) (drop i l)
 
 pub rest-is : (l : List ℕ) (i : ℕ) → rest l i ≡ drop i l
 rest-is l i = take-all (length l - i) (drop i l) (let d = length-drop i l in omega arith)
+
+-- equal kinds have records of one length
+pub length-at : {j k : ℕ} → j ≡ k → bodyLength j + 1 ≡ bodyLength k + 1
+length-at e = ap (λ (x : ℕ). bodyLength x + 1) e
+
+-- the kinds of a tree are known
+pub tree-known : (k : ℕ) → 3 ≤ k → k ≤ 5 → 0 < bodyLength k
+unfolding bodyLength
+tree-known k h w =
+    let z : bodyLength k ≡ 0 → ⊥ =
+    λ e.
+    let a = eq-second _ _ _ _ _ e (λ q. omega arith) in
+    let b = eq-second _ _ _ _ _ (a .1) (λ q. omega arith) in
+    let leak = eq-second _ _ _ _ _ (b .1) (λ q. omega arith) in
+    let branching = eq-second _ _ _ _ _ (leak .1) (λ q. omega arith) in
+    let outcome = eq-second _ _ _ _ _ (branching .1) (λ q. omega arith) in
+    omega (arith, leak .0, branching .0, outcome .0) in
+    omega (arith, z)
 
 -- an effect has nine bytes
 pub effect-length : (l : List ℕ) → getD l 0 0 ≡ 6 → lengthOf l ≡ 9

@@ -68,18 +68,6 @@ fn leak_fault(scenarios: u32, last: u32, number: u32, frequency: u64) -> u8
     4
 }
 
-fn branching_fault(above: u8, chance: u32) -> u8
-    ensures { λ r. ⌜ r ≡ branchingFault above chance ⌝ }
-{
-    if Study::MOST_ABOVE < above {
-        return 5;
-    }
-    if Study::MOST_CHANCE < chance {
-        return 3;
-    }
-    0
-}
-
 fn outcome_fault(kind: u8, effects: u16) -> u8
     ensures { λ r. ⌜ r ≡ outcomeFault kind effects ⌝ }
 {
@@ -108,10 +96,15 @@ pub(crate) fn own_outcome(p: &[u8]) -> u8
 pub(crate) fn own_branching(c: Core, p: &[u8], stack: &[u64; 9]) -> u8
     ensures { λ r. ⌜ r ≡ branchingFault (aboveOf (top (now (stack .entry)) (c .branch .height))) (field (now (p .entry)) 1 4) ⌝ }
 {
-    let chance = decoding::word_at_1(p);
     let b = c.branch;
     let tree = trees::next_tree(stack, b.height);
-    branching_fault((tree % 16) as u8, chance)
+    if Study::MOST_ABOVE < (tree % 16) as u8 {
+        return 5;
+    }
+    if Study::MOST_CHANCE < decoding::word_at_1(p) {
+        return 3;
+    }
+    0
 }
 
 pub(crate) fn own_leak(c: Core, p: &[u8]) -> u8

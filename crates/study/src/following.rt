@@ -57,20 +57,11 @@ fn reading_after(h: Reading, count: u32) -> Reading
     requires { ⌜ (0 < count) × (1 < count → h .place + count * 9 ≤ most64) ⌝ }
     ensures { λ r. ⌜ r ≡ readingAfter h count ⌝ }
 {
-    if count == 1 {
-        return Reading {
-            place: h.place,
-            start: h.start,
-            at: 0,
-            phase: 0,
-            have: 0,
-            number: 0,
-        };
-    }
-    let last = h.place + ((count - 2) as u64) * 9;
+    let place = h.place + ((count - 1) as u64) * 9;
+    let start = if count == 1 { h.start } else { place - 9 };
     Reading {
-        place: last + 9,
-        start: last,
+        place: place,
+        start: start,
         at: 0,
         phase: 0,
         have: 0,
@@ -123,7 +114,7 @@ fn core_after(c: Core, count: u32, next: u32, unjudged: u32) -> Core
 // The effect that the bytes begin with, which has been entered, and the effects that follow it. The totals of the kinds stay, whatever they are.
 pub(crate) fn read_effects(
     table: &[u32; 256],
-    rows: &[u8; 544],
+    rows: &[u32; 544],
     c: Core,
     bytes: &[u8],
     sums: &mut [u64; 256],

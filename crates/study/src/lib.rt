@@ -4,6 +4,7 @@ mod following;
 mod pieces;
 mod records;
 mod reports;
+mod scenarios;
 mod whole;
 
 ghost use mathlib.Core.Path.{_≡_};

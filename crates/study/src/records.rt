@@ -1,7 +1,7 @@
 // A record that has been entered is read: taken, or refused at its first byte.
 ghost use mathlib.Core.Path.{_≡_};
 ghost use mathlib.Core.List.{List};
-ghost use Prim.Native.Nat.{ℕ, _+_};
+ghost use Prim.Native.Nat.{ℕ, _+_, _<_, _≤_};
 ghost use lib.ListN.{getD};
 ghost use Rattle.model.specs.Content.{given, described};
 ghost use Rattle.model.specs.Format.{openingRec, targetRec, leakRec, branchingRec, outcomeRec, closingRec};
@@ -56,9 +56,10 @@ fn read_target(c: Core, p: &[u8], facts: &mut [u64; 256]) -> Core
     targets::take_target(c, p, facts)
 }
 
-fn read_leak(c: Core, p: &[u8], stack: &mut [u64; 9]) -> Core
+pub(crate) fn read_leak(c: Core, p: &[u8], stack: &mut [u64; 9]) -> Core
     requires { ⌜ decode (now p) ≡ leakRec (field (now p) 1 4) (field (now p) 5 8) ⌝ }
     ensures { λ r. ⌜ ((q s m f : List ℕ) → state r q (now (stack .exit)) s m f ≡ recordRead (state c q (now (stack .entry)) s m f) (decode (now (p .entry)))) ⌝ }
+    ensures { λ r. ⌜ r .tally ≡ c .tally ⌝ }
 {
     let misplaced = place_fault(c, 3);
     if misplaced != 0 {
@@ -71,9 +72,10 @@ fn read_leak(c: Core, p: &[u8], stack: &mut [u64; 9]) -> Core
     trees::take_leak(c, p, stack)
 }
 
-fn read_branching(c: Core, p: &[u8], stack: &mut [u64; 9]) -> Core
+pub(crate) fn read_branching(c: Core, p: &[u8], stack: &mut [u64; 9]) -> Core
     requires { ⌜ decode (now p) ≡ branchingRec (given (field (now p) 1 4)) ⌝ }
     ensures { λ r. ⌜ ((q s m f : List ℕ) → state r q (now (stack .exit)) s m f ≡ recordRead (state c q (now (stack .entry)) s m f) (decode (now (p .entry)))) ⌝ }
+    ensures { λ r. ⌜ r .tally ≡ c .tally ⌝ }
 {
     let misplaced = place_fault(c, 4);
     if misplaced != 0 {
@@ -87,9 +89,10 @@ fn read_branching(c: Core, p: &[u8], stack: &mut [u64; 9]) -> Core
 }
 
 // The lent array has the totals of the kinds; those in the core are old.
-fn read_outcome(c: Core, p: &[u8], stack: &[u64; 9], kinds: &mut [u64; 6]) -> Core
+pub(crate) fn read_outcome(c: Core, p: &[u8], stack: &[u64; 9], kinds: &mut [u64; 6]) -> Core
     requires { ⌜ decode (now p) ≡ outcomeRec (field (now p) 1 1) (field (now p) 2 2) ⌝ }
     ensures { λ r. ⌜ ((q s m f : List ℕ) → state (withKinds r (now (kinds .exit))) q (now (stack .entry)) s m f ≡ recordRead (state (withKinds c (now (kinds .entry))) q (now (stack .entry)) s m f) (decode (now (p .entry)))) ⌝ }
+    ensures { λ r. ⌜ r .tally ≡ c .tally ⌝ }
 {
     let misplaced = place_fault(c, 5);
     if misplaced != 0 {
@@ -125,31 +128,13 @@ fn ended(c: Core, kind: u8) -> Run
     Run { core: c, at: n }
 }
 
-// A record of any kind but an effect, and its length.
-pub(crate) fn read_other(
-    c: Core,
-    p: &[u8],
-    stack: &mut [u64; 9],
-    facts: &mut [u64; 256],
-    kinds: &mut [u64; 6],
-) -> Run
-    requires { ⌜ (getD (now p) 0 0 ≡ 6 → ⊥) ⌝ }
+// An opening, a target or a closing, and its length. The totals of the kinds stay, whatever they are.
+pub(crate) fn read_other(c: Core, p: &[u8], facts: &mut [u64; 256]) -> Run
+    requires { ⌜ (3 ≤ getD (now p) 0 0 → 6 < getD (now p) 0 0) ⌝ }
     ensures { λ r. ⌜ r .at ≡ lengthOf (now (p .entry)) ⌝ }
-    ensures { λ r. ⌜ ((q s m : List ℕ) → state (withKinds (r .core) (now (kinds .exit))) q (now (stack .exit)) s m (now (facts .exit)) ≡ recordRead (state (withKinds c (now (kinds .entry))) q (now (stack .entry)) s m (now (facts .entry))) (decode (now (p .entry)))) ⌝ }
+    ensures { λ r. ⌜ ((l q k s m : List ℕ) → state (withKinds (r .core) l) q k s m (now (facts .exit)) ≡ recordRead (state (withKinds c l) q k s m (now (facts .entry))) (decode (now (p .entry)))) ⌝ }
 {
     let kind = decoding::kind(p);
-    if kind == 5 {
-        let after = read_outcome(c, p, stack, kinds);
-        return ended(after, kind);
-    }
-    if kind == 4 {
-        let after = read_branching(c, p, stack);
-        return ended(after, kind);
-    }
-    if kind == 3 {
-        let after = read_leak(c, p, stack);
-        return ended(after, kind);
-    }
     if kind == 2 {
         let after = read_target(c, p, facts);
         return ended(after, kind);

@@ -14,24 +14,13 @@ ghost use Rattle.study.specs.Spans.{Between, Next, lengthOf, afterFirst,
 use crate::following::read_effects;
 use crate::records::Run;
 use crate::records::read_other;
+use crate::scenarios::begun;
+use crate::scenarios::between;
+use crate::scenarios::read_trees;
 use reading::Entered;
 use reading::enter_byte;
 use state::Core;
 use state::Reading;
-
-// Whether the reading stands between two records, far below the greatest place.
-fn between(h: Reading) -> bool
-    ensures { λ r. ⌜ (r ≡ true → Between h) ⌝ }
-{
-    if h.phase == 0 {
-        if h.have == 0 {
-            if h.place <= 18_446_744_073_709_551_602 {
-                return true;
-            }
-        }
-    }
-    false
-}
 
 // Whether a whole record of a known kind begins here, with room for any.
 fn next_here(h: Reading, bytes: &[u8]) -> bool
@@ -52,23 +41,14 @@ fn entered(c: Core, bytes: &[u8]) -> Core
     requires { ⌜ Between (c .reading) ⌝ }
     ensures { λ r. ⌜ r ≡ core (reading 0 (lengthOf (now (bytes .entry))) (c .reading .place + lengthOf (now (bytes .entry))) (c .reading .place) 0 0) (c .counts) (c .branch) (c .tally) ⌝ }
 {
-    let h = c.reading;
-    let n = decoding::body_length(decoding::kind(bytes)) + 1;
-    let begun = Reading {
-        place: h.place + (n as u64),
-        start: h.place,
-        at: 0,
-        phase: 0,
-        have: n,
-        number: 0,
-    };
-    reading::core_reading(c, begun)
+    reading::core_reading(c, begun(c.reading, bytes))
 }
 
-// The record that the bytes begin with, which has been entered; after an effect also the effects that follow it.
+// The record that the bytes begin with, which has been entered; after an effect also the effects that follow it, after a record of a tree those that
+// follow it.
 fn read_some(
     table: &[u32; 256],
-    rows: &[u8; 544],
+    rows: &[u32; 544],
     c: Core,
     bytes: &[u8],
     stack: &mut [u64; 9],
@@ -85,13 +65,18 @@ fn read_some(
     if kind == 6 {
         return read_effects(table, rows, c, bytes, sums, margins, facts);
     }
-    read_other(c, bytes, stack, facts, kinds)
+    if 3 <= kind {
+        if kind <= 5 {
+            return read_trees(c, bytes, stack, kinds);
+        }
+    }
+    read_other(c, bytes, facts)
 }
 
 // The record that the bytes begin with, which has been entered, and the whole records that follow it.
 fn read_records(
     table: &[u32; 256],
-    rows: &[u8; 544],
+    rows: &[u32; 544],
     c: Core,
     bytes: &[u8],
     stack: &mut [u64; 9],

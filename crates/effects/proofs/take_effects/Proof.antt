@@ -8,19 +8,19 @@ use Rattle.log2.specs.Logarithm.{Thresholds}
 use Rattle.probit.specs.Table.{RowsReached}
 use Rattle.model.specs.Machine.{upTo, most32}
 use Rattle.effects.specs.Effects.{Figures, figures, afterEffects, sound}
-use Rattle.effects.proofs.Laws.{effects-none, effects-next, effect-parts, sound-at, sound-more, missed-within, more-missed}
+use Rattle.effects.proofs.Laws.{effects-none, effects-next, step-sound, step-unsound, step-parts, step-left, sound-at, sound-more, more-missed}
 use borrow.Author.Needs.{needs}
 use Rattle.effects.proofs.take_effects.Statement.{statement}
 use Rattle.effects.proofs.take_effects.Tie as tie
 
 abbrev Inv-loop : tie.InvT-loop
-Inv-loop table rows b targets most before bytes sums₀ margins₀ facts₀ top count₀ next₀ missed₀ sums margins facts count next missed =
+Inv-loop table rows b targets most before bytes sums₀ margins₀ facts₀ top limit count₀ next₀ missed₀ sums margins facts count next missed =
     (count ≤ top) × (missed ≤ count)
     × (Thresholds table → RowsReached rows → figures next (upTo most32 before missed) sums margins facts ≡ afterEffects b (figures (b .next) before sums₀ margins₀ facts₀) bytes count)
     × (Thresholds table → RowsReached rows → (i : ℕ) → i < count → sound targets (b .kind) (afterEffects b (figures (b .next) before sums₀ margins₀ facts₀) bytes i .next) (drop (i * 9) bytes) ≡ true)
 
 abbrev μ-loop : tie.MeasureT-loop
-μ-loop table rows b targets most before bytes sums₀ margins₀ facts₀ top count₀ next₀ missed₀ sums margins facts count next missed = top - count
+μ-loop table rows b targets most before bytes sums₀ margins₀ facts₀ top limit count₀ next₀ missed₀ sums margins facts count next missed = top - count
 
 room-requires : tie.Need-room-requires Inv-loop μ-loop
 room-requires c κs = search needs
@@ -28,17 +28,20 @@ room-requires c κs = search needs
 least-requires : tie.Need-least-requires Inv-loop μ-loop
 least-requires c κs = search needs
 
+with-row-requires : tie.Need-with-row-requires Inv-loop μ-loop
+with-row-requires c κs = search needs
+
 loop-holds : tie.Need-loop-holds Inv-loop μ-loop
 loop-holds c =
-    let s = c .before .before .before in
+    let s = c .before .before .before .before in
     let e : upTo most32 (s .args .before) 0 ≡ s .args .before = omega (arith, s .good) in
     (omega arith, omega arith, λ h q. rw e (effects-none _ _ _), λ h q i w. let z : ⊥ = omega arith in absurd z)
 
 mul-at : tie.Need-mul-at Inv-loop μ-loop
-mul-at c = let l = c .before .before in omega (arith, c .loop-test .taken, l .least .ensures, l .before .room .ensures, l .before .before .before .good)
+mul-at c = let l = c .before .before .before in omega (arith, c .loop-test .taken, l .least .ensures, l .before .room .ensures, l .before .before .before .good)
 
 add-p : tie.Need-add-p Inv-loop μ-loop
-add-p c = let l = c .before .before in omega (arith, c .loop-test .taken, l .least .ensures, l .before .room .ensures, l .before .before .before .good)
+add-p c = let l = c .before .before .before in omega (arith, c .loop-test .taken, l .least .ensures, l .before .room .ensures, l .before .before .before .good)
 
 sub-p : tie.Need-sub-p Inv-loop μ-loop
 sub-p c = omega arith
@@ -47,82 +50,77 @@ part-p-start : tie.Need-part-p-start Inv-loop μ-loop
 part-p-start c = omega arith
 
 part-p-end : tie.Need-part-p-end Inv-loop μ-loop
-part-p-end c = let l = c .before .before in omega (arith, c .loop-test .taken, l .least .ensures, l .before .room .ensures)
+part-p-end c = let l = c .before .before .before in omega (arith, c .loop-test .taken, l .least .ensures, l .before .room .ensures)
 
-sound-here-requires : tie.Need-sound-here-requires Inv-loop μ-loop
-sound-here-requires c κs = search needs
+take-one-requires : tie.Need-take-one-requires Inv-loop μ-loop
+take-one-requires c κs = c .before .before .before .before .before .before .with-row .ensures
 
-add-effect-requires : tie.Need-add-effect-requires Inv-loop μ-loop
-add-effect-requires c κs = search needs
-
-next-after-requires : tie.Need-next-after-requires Inv-loop μ-loop
-next-after-requires c κs = search needs
-
-missed-after-requires : tie.Need-missed-after-requires Inv-loop μ-loop
-missed-after-requires c κs =
-    let i = c .before .before .before .before .before .before .before .before in
-    let l = i .before .before in
-    omega (arith, i .before .loop .inv .1, i .loop-test .taken, l .least .ensures, l .before .room .ensures, l .before .before .before .good)
+add-missed : tie.Need-add-missed Inv-loop μ-loop
+add-missed c =
+    let k = c .before .before .before in
+    let i = k .before .before .before .before .before in
+    let l = i .before .before .before in
+    omega (arith, i .before .loop .inv .1, k .take-one .ensures .0 .1, i .loop-test .taken, l .least .ensures, l .before .before .before .good)
 
 add-count : tie.Need-add-count Inv-loop μ-loop
 add-count c =
-    let i = c .before .before .before .before .before .before .before .before .before in
-    let l = i .before .before in
-    omega (arith, i .loop-test .taken, l .least .ensures, l .before .room .ensures, l .before .before .before .good)
+    let i = c .before .before .before .before .before .before .before .before in
+    let l = i .before .before .before in
+    omega (arith, i .loop-test .taken, l .least .ensures, l .before .before .before .good)
 
 loop-less : tie.Need-loop-less Inv-loop μ-loop
-loop-less c = let i = c .before .before .before .before .before .before .before .before .before in omega (arith, i .loop-test .taken)
+loop-less c = omega (arith, c .before .before .before .before .before .before .before .before .loop-test .taken)
 
 loop-again : tie.Need-loop-again Inv-loop μ-loop
 loop-again c =
-    let n = c .before in
-    let a = n .before in
-    let t = a .before .before .before .before in
-    let s = t .before in
-    let i = s .before .before in
+    let t = c .before in
+    let k = t .before .before in
+    let i = k .before .before .before .before .before in
     let v = i .before .loop in
-    let g = i .before .before .before .before .before .args in
-    let e = a .add-effect .ensures in (
+    let g = i .before .before .before .before .before .before .args in
+    let e = k .take-one .ensures in (
       omega (arith, i .loop-test .taken),
-      missed-within _ _ (a .add-effect .result) _ (v .inv .1) (c .missed-after .ensures),
+      omega (arith, v .inv .1, e .0 .1),
       λ h q.
           effects-next _ _ _ _ (g .bytes .now) (v .count) (v .inv .2 h q)
-          (effect-parts _ _ _ _ _ _ _ _ _ (n .next-after .ensures) (more-missed (g .before) (v .missed) _ _ (c .missed-after .ensures)) (e .0 h q) (e .1 .0 h q) (e .1 .1 .0 h q) (e .1 .1 .1 h q)),
+          (step-parts (g .targets) (g .b) _ _ _ (e .0 .0) _ _ (t .if1 .taken) (more-missed (g .before) (v .missed) _ _ refl) (e .1 h q)),
       λ h q.
           sound-more (g .targets) (g .b) _ (g .bytes .now) (v .count) (v .inv .3 h q)
-          (ap (λ (x : Figures). sound (g .targets) (g .b .kind) (x .next) (drop (v .count * 9) (g .bytes .now))) (sym (v .inv .2 h q)) ∙ sym (sound-at _ _ _ (g .bytes .now) (v .count * 9)) ∙ sym (s .sound-here .ensures) ∙ t .if1 .taken),
+          (ap (λ (x : Figures). sound (g .targets) (g .b .kind) (x .next) (drop (v .count * 9) (g .bytes .now))) (sym (v .inv .2 h q)) ∙ sym (sound-at _ _ _ (g .bytes .now) (v .count * 9)) ∙ step-sound (g .targets) (g .b) _ _ _ (e .0 .0) (t .if1 .taken)),
     )
 
 unjudged-after-requires : tie.Need-unjudged-after-requires Inv-loop μ-loop
 unjudged-after-requires c κs =
-    let i = c .before .before .before in
-    let l = i .before .before in
-    omega (arith, i .before .loop .inv .0, i .before .loop .inv .1, l .least .ensures, l .before .before .before .good)
+    let v = c .before .before .before .before .before .before .before .before .loop in
+    let l = c .before .before .before .before .before .before .before .before .before .before in
+    omega (arith, v .inv .0, v .inv .1, l .least .ensures, l .before .before .before .good)
 
 returns : tie.Need-returns Inv-loop μ-loop
 returns c =
-    let s = c .before .before in
-    let i = s .before .before in
+    let o = c .before in
+    let k = o .before .before in
+    let i = k .before .before .before .before .before in
     let v = i .before .loop in
-    let l = i .before .before in
-    let g = l .before .before .before .args in (
+    let l = i .before .before .before in
+    let g = l .before .before .before .args in
+    let e = k .take-one .ensures in (
       omega (arith, i .loop-test .taken, l .least .ensures, l .before .room .ensures),
       (
-        λ h q. rw (c .unjudged-after .ensures) (v .inv .2 h q),
-        (v .inv .3, λ w. sym (sound-at _ _ _ (g .bytes .now) (v .count * 9)) ∙ sym (s .sound-here .ensures) ∙ c .before .if1 .left),
+        λ h q. rw (c .unjudged-after .ensures) (step-left (g .targets) (g .b) _ _ _ (e .0 .0) _ (o .if1 .left) (e .1 h q) ∙ v .inv .2 h q),
+        (v .inv .3, λ w. sym (sound-at _ _ _ (g .bytes .now) (v .count * 9)) ∙ step-unsound (g .targets) (g .b) _ _ _ (e .0 .0) (o .if1 .left)),
       ),
     )
 
 unjudged-after-requires-2 : tie.Need-unjudged-after-requires-2 Inv-loop μ-loop
 unjudged-after-requires-2 c κs =
     let v = c .before .loop in
-    let l = c .before .before in
+    let l = c .before .before .before in
     omega (arith, v .inv .0, v .inv .1, l .least .ensures, l .before .before .before .good)
 
 returns-2 : tie.Need-returns-2 Inv-loop μ-loop
 returns-2 c =
     let v = c .before .before .loop in
-    let l = c .before .before .before in (
+    let l = c .before .before .before .before in (
       omega (arith, v .inv .0, l .least .ensures, l .before .room .ensures),
       (
         λ h q. rw (c .unjudged-after2 .ensures) (v .inv .2 h q),
@@ -138,16 +136,15 @@ take-effects-spec =
     μ-loop
     room-requires
     least-requires
+    with-row-requires
     loop-holds
     mul-at
     add-p
     sub-p
     part-p-start
     part-p-end
-    sound-here-requires
-    add-effect-requires
-    next-after-requires
-    missed-after-requires
+    take-one-requires
+    add-missed
     add-count
     loop-less
     loop-again

@@ -14,18 +14,15 @@ cast-scaled-log c = search needs
 scaled-log-requires : tie.Need-scaled-log-requires
 scaled-log-requires c κs = search needs
 
-cast-chance : tie.Need-cast-chance
-cast-chance c = search needs
-
 chance-requires : tie.Need-chance-requires
 chance-requires c κs = search needs
 
 returns : tie.Need-returns
 unfolding blastProbit
 returns c t w =
-    c .chance .ensures .0 w ∙
-    ap (λ (y : ℕ). chanceOf (pos y -ℤ pos (c .before .before .before .before .args .row .constant))) (c .before .before .scaled-log .ensures .0 t)
+    c .chance .ensures w ∙
+    ap (λ (y : ℕ). chanceOf (pos y -ℤ pos (c .before .before .before .args .row .constant))) (c .before .scaled-log .ensures .0 t)
 
 pub blast-chance-spec : {M : Type 1} → statement M
 blast-chance-spec =
-    tie.close (tie.spec cast-scaled-log scaled-log-requires cast-chance chance-requires returns)
+    tie.close (tie.spec cast-scaled-log scaled-log-requires chance-requires returns)

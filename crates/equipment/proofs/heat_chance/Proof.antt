@@ -19,7 +19,7 @@ chance-requires c κs = search needs
 
 returns : tie.Need-returns
 unfolding heatProbit
-returns c t w = rw (← c .before .scaled-log .ensures .0 t) (c .chance .ensures .0 w)
+returns c t w = rw (← c .before .scaled-log .ensures .0 t) (c .chance .ensures w)
 
 pub heat-chance-spec : {M : Type 1} → statement M
 heat-chance-spec =

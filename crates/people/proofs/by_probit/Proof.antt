@@ -16,7 +16,7 @@ chance-requires c κs = search needs
 
 returns : tie.Need-returns
 unfolding fireProbit
-returns c = (λ t w. c .chance .ensures .0 w ∙ ap (λ (y : ℕ). chanceOf (pos y -ℤ pos (c .before .before .args .constant))) (c .before .dose .ensures t), search needs)
+returns c t w = c .chance .ensures w ∙ ap (λ (y : ℕ). chanceOf (pos y -ℤ pos (c .before .before .args .constant))) (c .before .dose .ensures t)
 
 pub by-probit-spec : {M : Type 1} → statement M
 by-probit-spec = tie.close (tie.spec dose-requires chance-requires returns)

@@ -29,7 +29,7 @@ in-setting-requires c κs = search needs
 
 returns-4 : tie.Need-returns-4
 unfolding fireDeath
-returns-4 c t w = gt-case _ _ _ _ (search needs) (ne-case _ _ _ _ (search needs) (ne-case _ _ _ _ (search needs) (cc (c .before .by-probit .ensures .0 t w))))
+returns-4 c t w = gt-case _ _ _ _ (search needs) (ne-case _ _ _ _ (search needs) (ne-case _ _ _ _ (search needs) (cc (c .before .by-probit .ensures t w))))
 
 pub fire-spec : {M : Type 1} → statement M
 fire-spec =

@@ -9,6 +9,9 @@ use Rattle.people.proofs.in_setting.Tie as tie
 mul-result : tie.Need-mul-result
 mul-result c = search needs
 
+cast-result : tie.Need-cast-result
+cast-result c = search needs
+
 returns : tie.Need-returns
 unfolding settingShare
 returns c = eq-case _ _ _ _ (search needs) (refl)
@@ -18,4 +21,4 @@ unfolding settingShare
 returns-2 c = ne-case _ _ _ _ (search needs) (refl)
 
 pub in-setting-spec : {M : Type 1} → statement M
-in-setting-spec = tie.close (tie.spec mul-result returns returns-2)
+in-setting-spec = tie.close (tie.spec mul-result cast-result returns returns-2)

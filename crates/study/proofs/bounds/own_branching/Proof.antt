@@ -1,29 +1,32 @@
--- `study::bounds::own_branching` meets its contract. Assumes nothing.
+-- `study::bounds::own_branching` meets its contract, case by case. Assumes nothing.
+use mathlib.Core.Path.{refl}
 use borrow.Author.Needs.{needs}
+use Rattle.numeric.proofs.ChoiceLaws.{ge-case, lt-case}
+use Rattle.model.specs.Faults.{branchingFault}
 use Rattle.study.proofs.bounds.own_branching.Statement.{statement}
 use Rattle.study.proofs.bounds.own_branching.Tie as tie
-
-word-at-1-requires : tie.Need-word-at-1-requires
-word-at-1-requires c κs = search needs
 
 next-tree-requires : tie.Need-next-tree-requires
 next-tree-requires c κs = search needs
 
-cast-branching-fault : tie.Need-cast-branching-fault
-cast-branching-fault c = search needs
-
-branching-fault-requires : tie.Need-branching-fault-requires
-branching-fault-requires c κs = search needs
+cast-if1 : tie.Need-cast-if1
+cast-if1 c = search needs
 
 returns : tie.Need-returns
-returns c = rw (c .before .before .before .word-at-1 .ensures, c .before .next-tree .ensures) at (c .branching-fault .ensures)
+unfolding branchingFault
+returns c = rw (← c .before .next-tree .ensures) (lt-case _ _ _ _ (c .if1 .taken) refl)
+
+word-at-1-requires : tie.Need-word-at-1-requires
+word-at-1-requires c κs = search needs
+
+returns-2 : tie.Need-returns-2
+unfolding branchingFault
+returns-2 c = rw (← c .before .before .before .next-tree .ensures, ← c .before .word-at-1 .ensures) (ge-case _ _ _ _ (c .before .before .if1 .left) (lt-case _ _ _ _ (c .if2 .taken) refl))
+
+returns-3 : tie.Need-returns-3
+unfolding branchingFault
+returns-3 c = rw (← c .before .before .before .next-tree .ensures, ← c .before .word-at-1 .ensures) (ge-case _ _ _ _ (c .before .before .if1 .left) (ge-case _ _ _ _ (c .if2 .left) refl))
 
 pub own-branching-spec : {M : Type 1} → statement M
 own-branching-spec =
-    tie.close
-    (tie.spec
-    word-at-1-requires
-    next-tree-requires
-    cast-branching-fault
-    branching-fault-requires
-    returns)
+    tie.close (tie.spec next-tree-requires cast-if1 returns word-at-1-requires returns-2 returns-3)

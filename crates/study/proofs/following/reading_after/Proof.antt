@@ -1,59 +1,54 @@
 -- `study::following::reading_after` meets its contract: one effect, or more. Assumes nothing.
 use mathlib.Core.Path.{_≡_, refl}
-use Prim.Native.Nat.{ℕ, _+_, _-_, _*_, _<_}
+use Prim.Native.Nat.{ℕ, zero, suc, _+_, _-_, _*_, _<_, _≤_}
 use native.Mathlib.Omega.{arith}
 use Rattle.numeric.specs.Choice.{ifEq}
 use Rattle.numeric.proofs.ChoiceLaws.{eq-case, ne-case}
+use Rattle.model.specs.Machine.{most64}
 use borrow.Author.Needs.{needs}
 use Rattle.study.proofs.following.reading_after.Statement.{statement}
 use Rattle.study.proofs.following.reading_after.Tie as tie
 
-one-place : (x n : ℕ) → n ≡ 1 → x ≡ x + (n - 1) * 9
-one-place x n h = omega arith
+-- the place after the last of them is counted
+place-room : (x n : ℕ) → 0 < n → x ≤ most64 → (1 < n → x + n * 9 ≤ most64) → x + (n - 1) * 9 ≤ most64
+place-room x zero h w m = omega arith
+place-room x (suc zero) h w m = omega arith
+place-room x (suc (suc n)) h w m = omega (arith, m (omega arith))
 
--- more than one, with the first of them entered
-several : (n : ℕ) → 0 < n → (n ≡ 1 → ⊥) → 1 < n
-several n h w = omega arith
+-- where the last of more than one begins
+last-start : (x n : ℕ) → 0 < n → (n ≡ 1 → ⊥) → x + (n - 1) * 9 - 9 ≡ x + (n - 2) * 9
+last-start x n h w = omega arith
 
-last-place : (x n : ℕ) → 1 < n → x + (n - 2) * 9 + 9 ≡ x + (n - 1) * 9
-last-place x n h = omega arith
+sub-place : tie.Need-sub-place
+sub-place c = search needs
+
+cast-place : tie.Need-cast-place
+cast-place c = search needs
+
+mul-place : tie.Need-mul-place
+mul-place c = search needs
+
+add-place : tie.Need-add-place
+add-place c =
+    let s = c .before in
+    omega (arith, place-room (s .args .h .place) (s .args .count) (s .pre .0) (search needs) (s .pre .1))
+
+sub-start : tie.Need-sub-start
+sub-start c = search needs
 
 returns : tie.Need-returns
 returns c =
-    let g = c .before .args in
-    let e = c .if1 .taken in
-    let b : g .h .start ≡ ifEq (g .count) 1 (g .h .start) (g .h .place + (g .count - 2) * 9) = eq-case _ _ _ _ e refl in
-    rw (← one-place (g .h .place) (g .count) e, ← b) refl
-
-sub-last : tie.Need-sub-last
-sub-last c = search needs
-
-cast-last : tie.Need-cast-last
-cast-last c = search needs
-
-mul-last : tie.Need-mul-last
-mul-last c = search needs
-
-add-last : tie.Need-add-last
-add-last c =
-    let s = c .before .before in
-    let w = several (s .args .count) (s .pre .0) (c .before .if1 .left) in
-    omega (arith, w, s .pre .1 w)
-
-add-t6 : tie.Need-add-t6
-add-t6 c =
-    let s = c .before .before in
-    let w = several (s .args .count) (s .pre .0) (c .before .if1 .left) in
-    omega (arith, w, s .pre .1 w)
+    let g = c .before .before .args in
+    let b : g .h .start ≡ ifEq (g .count) 1 (g .h .start) (g .h .place + (g .count - 2) * 9) = eq-case _ _ _ _ (c .if1 .taken) refl in
+    rw (← b) refl
 
 returns-2 : tie.Need-returns-2
 returns-2 c =
     let s = c .before .before in
     let g = s .args in
-    let w = several (g .count) (s .pre .0) (c .before .if1 .left) in
-    let b : g .h .place + (g .count - 2) * 9 ≡ ifEq (g .count) 1 (g .h .start) (g .h .place + (g .count - 2) * 9) = ne-case _ _ _ _ (c .before .if1 .left) refl in
-    rw (← last-place (g .h .place) (g .count) w, ← b) refl
+    let b : g .h .place + (g .count - 1) * 9 - 9 ≡ ifEq (g .count) 1 (g .h .start) (g .h .place + (g .count - 2) * 9) = ne-case _ _ _ _ (c .if1 .left) (last-start _ _ (s .pre .0) (c .if1 .left)) in
+    rw (← b) refl
 
 pub reading-after-spec : {M : Type 1} → statement M
 reading-after-spec =
-    tie.close (tie.spec returns sub-last cast-last mul-last add-last add-t6 returns-2)
+    tie.close (tie.spec sub-place cast-place mul-place add-place sub-start returns returns-2)

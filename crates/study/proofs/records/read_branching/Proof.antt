@@ -14,7 +14,7 @@ refused-requires c κs = search needs
 
 returns : tie.Need-returns
 unfolding withReading
-returns c q s m f = rw (c .before .before .before .before .pre) (place-refused _ _ _ (c .before .before .place-fault .ensures) (c .before .if1 .taken) (rw (c .refused .ensures) refl))
+returns c = (λ q s m f. rw (c .before .before .before .before .pre) (place-refused _ _ _ (c .before .before .place-fault .ensures) (c .before .if1 .taken) (rw (c .refused .ensures) refl)), rw (c .refused .ensures) refl)
 
 own-branching-requires : tie.Need-own-branching-requires
 own-branching-requires c κs = search needs
@@ -24,20 +24,26 @@ refused-requires-2 c κs = search needs
 
 returns-2 : tie.Need-returns-2
 unfolding ownFaultIn withReading
-returns-2 c q s m f =
-    let p = c .before .before .before .before .before in
-    rw (p .before .before .pre)
-    (own-refused _ _ _ _ (p .place-fault .ensures) (c .before .before .before .before .if1 .left) (c .before .before .own-branching .ensures) (c .before .if2 .taken) (rw (c .refused2 .ensures) refl))
+returns-2 c =
+    let p = c .before .before .before .before .before in (
+      λ q s m f.
+          rw (p .before .before .pre)
+          (own-refused _ _ _ _ (p .place-fault .ensures) (c .before .before .before .before .if1 .left) (c .before .before .own-branching .ensures) (c .before .if2 .taken) (rw (c .refused2 .ensures) refl)),
+      rw (c .refused2 .ensures) refl,
+    )
 
 take-branching-requires : tie.Need-take-branching-requires
 take-branching-requires c κs = search needs
 
 returns-3 : tie.Need-returns-3
 unfolding accepted ownFaultIn
-returns-3 c q s m f =
-    let p = c .before .before .before .before .before .before in
-    rw (p .before .before .pre)
-    (without-fault _ _ _ _ (p .place-fault .ensures) (c .before .before .before .before .before .if1 .left) (c .before .before .before .own-branching .ensures) (c .before .before .if2 .left) (rw (c .take-branching .ensures .0, c .take-branching .ensures .1) refl))
+returns-3 c =
+    let p = c .before .before .before .before .before .before in (
+      λ q s m f.
+          rw (p .before .before .pre)
+          (without-fault _ _ _ _ (p .place-fault .ensures) (c .before .before .before .before .before .if1 .left) (c .before .before .before .own-branching .ensures) (c .before .before .if2 .left) (rw (c .take-branching .ensures .0, c .take-branching .ensures .1) refl)),
+      rw (c .take-branching .ensures .0) refl,
+    )
 
 pub read-branching-spec : {M : Type 1} → statement M
 read-branching-spec =

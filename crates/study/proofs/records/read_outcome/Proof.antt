@@ -17,11 +17,14 @@ refused-requires c κs = search needs
 
 returns : tie.Need-returns
 unfolding withReading placeFault
-returns c q s m f =
+returns c =
     let p = c .before .before in
-    let a = p .before .before in
-    rw (a .pre)
-    (place-refused (state (withKinds (a .args .c) (a .args .kinds .now)) q (a .args .stack .now) s m f) _ _ (p .place-fault .ensures) (c .before .if1 .taken) (rw (c .refused .ensures) refl))
+    let a = p .before .before in (
+      λ q s m f.
+          rw (a .pre)
+          (place-refused (state (withKinds (a .args .c) (a .args .kinds .now)) q (a .args .stack .now) s m f) _ _ (p .place-fault .ensures) (c .before .if1 .taken) (rw (c .refused .ensures) refl)),
+      rw (c .refused .ensures) refl,
+    )
 
 own-outcome-requires : tie.Need-own-outcome-requires
 own-outcome-requires c κs = search needs
@@ -31,23 +34,29 @@ refused-requires-2 c κs = search needs
 
 returns-2 : tie.Need-returns-2
 unfolding ownFaultIn withReading placeFault
-returns-2 c q s m f =
+returns-2 c =
     let p = c .before .before .before .before in
-    let a = p .before .before in
-    rw (a .pre)
-    (own-refused (state (withKinds (a .args .c) (a .args .kinds .now)) q (a .args .stack .now) s m f) _ _ _ (p .place-fault .ensures) (c .before .before .before .if1 .left) (c .before .before .own-outcome .ensures) (c .before .if2 .taken) (rw (c .refused2 .ensures) refl))
+    let a = p .before .before in (
+      λ q s m f.
+          rw (a .pre)
+          (own-refused (state (withKinds (a .args .c) (a .args .kinds .now)) q (a .args .stack .now) s m f) _ _ _ (p .place-fault .ensures) (c .before .before .before .if1 .left) (c .before .before .own-outcome .ensures) (c .before .if2 .taken) (rw (c .refused2 .ensures) refl)),
+      rw (c .refused2 .ensures) refl,
+    )
 
 take-outcome-requires : tie.Need-take-outcome-requires
 take-outcome-requires c κs = search needs
 
 returns-3 : tie.Need-returns-3
 unfolding accepted ownFaultIn placeFault
-returns-3 c q s m f =
+returns-3 c =
     let p = c .before .before .before .before .before in
-    let a = p .before .before in
-    rw (a .pre)
-    (without-fault (state (withKinds (a .args .c) (a .args .kinds .now)) q (a .args .stack .now) s m f) _ _ _ (p .place-fault .ensures) (c .before .before .before .before .if1 .left) (c .before .before .before .own-outcome .ensures) (c .before .before .if2 .left)
-    (ap (λ (x : Core). state x q (a .args .stack .now) s m f) (c .take-outcome .ensures .0)))
+    let a = p .before .before in (
+      λ q s m f.
+          rw (a .pre)
+          (without-fault (state (withKinds (a .args .c) (a .args .kinds .now)) q (a .args .stack .now) s m f) _ _ _ (p .place-fault .ensures) (c .before .before .before .before .if1 .left) (c .before .before .before .own-outcome .ensures) (c .before .before .if2 .left)
+          (ap (λ (x : Core). state x q (a .args .stack .now) s m f) (c .take-outcome .ensures .0))),
+      c .take-outcome .ensures .1,
+    )
 
 pub read-outcome-spec : {M : Type 1} → statement M
 read-outcome-spec =

@@ -1,4 +1,4 @@
--- `study::whole::read_records` meets its contract: each turn reads a record more, or effects in a row. Assumes nothing.
+-- `study::whole::read_records` meets its contract: each turn reads a record more, or effects or records of trees in a row. Assumes nothing.
 use mathlib.Core.Path.{_≡_}
 use mathlib.Core.List.{List}
 use Prim.Native.Nat.{ℕ, _+_, _-_, _≤_}

@@ -1,0 +1,74 @@
+-- `effects::blast` meets its contract: on a target that has a row, or past the rows. Assumes nothing.
+use mathlib.Core.Path.{sym, _∙_}
+use native.Mathlib.Omega.{arith}
+use Rattle.effects.proofs.StepLaws.{row-of, next-row, taking-row, next-past, taking-past}
+use borrow.Author.Needs.{needs}
+use Rattle.effects.proofs.blast.Statement.{statement}
+use Rattle.effects.proofs.blast.Tie as tie
+
+half-at-1-requires : tie.Need-half-at-1-requires
+half-at-1-requires c κs = search needs
+
+word-at-3-requires : tie.Need-word-at-3-requires
+word-at-3-requires c κs = search needs
+
+half-at-7-requires : tie.Need-half-at-7-requires
+half-at-7-requires c κs = search needs
+
+effect-fault-requires : tie.Need-effect-fault-requires
+effect-fault-requires c κs = search needs
+
+cast-blast-row : tie.Need-cast-blast-row
+cast-blast-row c = search needs
+
+blast-row-requires : tie.Need-blast-row-requires
+blast-row-requires c κs =
+    let z = c .before .before .before in
+    let e = z .before in
+    let d = e .before in
+    let s = d .before .before .before .before in
+    let fault = sym (e .effect-fault .ensures) ∙ z .if1 .taken in
+    (row-of (s .args .targets) (s .args .limit) (s .args .b) (s .args .next) (s .args .p .now) _ _ _ (s .pre .0) (s .pre .1) (d .before .before .half-at-1 .ensures) (d .before .word-at-3 .ensures) (d .half-at-7 .ensures) fault, s .pre .2)
+
+cast-t21 : tie.Need-cast-t21
+cast-t21 c = search needs
+
+add-t22 : tie.Need-add-t22
+add-t22 c = search needs
+
+returns : tie.Need-returns
+returns c =
+    let z = c .before .before .before .before in
+    let e = z .before in
+    let d = e .before in
+    let s = d .before .before .before .before in
+    let fault = sym (e .effect-fault .ensures) ∙ z .if1 .taken in
+    ((next-row (s .args .targets) (s .args .limit) (s .args .b) (s .args .next) (s .args .p .now) _ _ _ (s .pre .0) (s .pre .1) (d .before .before .half-at-1 .ensures) (d .before .word-at-3 .ensures) (d .half-at-7 .ensures) fault, omega arith), λ h q. taking-row (s .args .targets) (s .args .limit) (s .args .b) (s .args .next) (s .args .p .now) _ _ _ (s .pre .0) (s .pre .1) (d .before .before .half-at-1 .ensures) (d .before .word-at-3 .ensures) (d .half-at-7 .ensures) fault (c .blast-row .ensures h q))
+
+past-rows-requires : tie.Need-past-rows-requires
+past-rows-requires c κs = search needs
+
+returns-2 : tie.Need-returns-2
+returns-2 c =
+    let z = c .before in
+    let e = z .before in
+    let d = e .before in
+    let s = d .before .before .before .before in
+    let past = c .past-rows .ensures in
+    ((next-past (s .args .targets) (s .args .limit) (s .args .b) (s .args .next) (s .args .p .now) _ _ _ (s .pre .0) (s .pre .1) (d .before .before .half-at-1 .ensures) (d .before .word-at-3 .ensures) (d .half-at-7 .ensures) _ (past .0), omega (arith, past .1)), λ h q. taking-past (s .args .targets) (s .args .limit) (s .args .b) (s .args .next) (s .args .p .now) _ _ _ (s .pre .0) (s .pre .1) (d .before .before .half-at-1 .ensures) (d .before .word-at-3 .ensures) (d .half-at-7 .ensures) (λ k. z .if1 .left (e .effect-fault .ensures ∙ k)) (past .1))
+
+pub blast-spec : {M : Type 1} → statement M
+blast-spec =
+    tie.close
+    (tie.spec
+    half-at-1-requires
+    word-at-3-requires
+    half-at-7-requires
+    effect-fault-requires
+    cast-blast-row
+    blast-row-requires
+    cast-t21
+    add-t22
+    returns
+    past-rows-requires
+    returns-2)

@@ -1,0 +1,109 @@
+-- `effects::fire_row` meets its contract, class by class. Assumes nothing.
+use mathlib.Core.Path.{_≡_, refl}
+use Prim.Native.Nat.{ℕ, _<_}
+use mathlib.Core.Logic.{inl, inr, ⊎-elim}
+use native.Mathlib.Omega.{arith}
+use Rattle.terms.specs.Terms.{judgedAs, unjudged}
+use Rattle.vulnerability.proofs.FormLaws.{fire-judged, unjudged-fire, no-class, without-effect}
+use Rattle.effects.proofs.RowLaws.{added, spared}
+use borrow.Author.Needs.{needs}
+use Rattle.effects.proofs.fire_row.Statement.{statement}
+use Rattle.effects.proofs.fire_row.Tie as tie
+
+-- the fifth class burns
+no-five : {x : ℕ} → (x ≡ 5 → ⊥) → 4 < x → 5 < x
+no-five n h = omega (arith, n, h)
+
+add-margin-requires : tie.Need-add-margin-requires
+add-margin-requires c κs = search needs
+
+mul-known : tie.Need-mul-known
+mul-known c = search needs
+
+element-copy-out-known : tie.Need-element-copy-out-known
+element-copy-out-known c = search needs
+
+mul-as-kept : tie.Need-mul-as-kept
+mul-as-kept c = search needs
+
+element-copy-out-as-kept : tie.Need-element-copy-out-as-kept
+element-copy-out-as-kept c = search needs
+
+as-kept-requires : tie.Need-as-kept-requires
+as-kept-requires c κs = search needs
+
+unpack-facts-requires : tie.Need-unpack-facts-requires
+unpack-facts-requires c κs = search needs
+
+returns : tie.Need-returns
+returns c =
+    let k = c .before .before in
+    let w = k .before .as-kept .ensures in
+    let a = k .before .before .before .before in
+    let s = a .before .before in
+    (λ h q. spared _ _ _ _ _ _ _ _ (s .pre .0) (a .add-margin .ensures) _ (k .unpack-facts .ensures) (judgedAs 0) 0 (without-effect _ _ _ _ (inl (c .if1 .taken))) refl refl (omega (arith, w .0, w .1)), omega arith)
+
+burns-requires : tie.Need-burns-requires
+burns-requires c κs = search needs
+
+fire-requires : tie.Need-fire-requires
+fire-requires c κs = search needs
+
+add-chance-requires : tie.Need-add-chance-requires
+add-chance-requires c κs = search needs
+
+returns-2 : tie.Need-returns-2
+returns-2 c =
+    let x = c .before .before .before in
+    let t = x .before in
+    let n = t .before .before in
+    let k = n .before .before in
+    let a = k .before .before .before .before in
+    let s = a .before .before in
+    let l : 0 < s .args .b .kind = omega (arith, n .if1 .left) in
+    (λ h q. added _ _ _ _ _ _ _ _ (s .pre .0) (a .add-margin .ensures) _ (k .unpack-facts .ensures) _ _ _ (x .fire .ensures h q _ l (s .pre .1)) (fire-judged _ _ _ _ l (s .pre .1) (t .before .burns .ensures .1 (t .if2 .taken))) (c .add-chance .ensures .0) (c .add-chance .ensures .1), omega arith)
+
+returns-3 : tie.Need-returns-3
+returns-3 c =
+    let o = c .before .before in
+    let y = o .before in
+    let n = y .before in
+    let k = n .before .before in
+    let w = k .before .as-kept .ensures in
+    let a = k .before .before .before .before in
+    let s = a .before .before in
+    let none = y .burns .ensures .0 (o .if2 .left) in
+    let l : 0 < s .args .b .kind = omega (arith, n .if1 .left) in
+    (λ h q. spared _ _ _ _ _ _ _ _ (s .pre .0) (a .add-margin .ensures) _ (k .unpack-facts .ensures) unjudged 1 (unjudged-fire _ _ _ _ (none .0) l (s .pre .1) (none .1) (c .if3 .taken)) refl refl (omega (arith, w .0, w .1)), omega arith)
+
+returns-4 : tie.Need-returns-4
+returns-4 c =
+    let o = c .before .before in
+    let y = o .before in
+    let n = y .before in
+    let k = n .before .before in
+    let w = k .before .as-kept .ensures in
+    let a = k .before .before .before .before in
+    let s = a .before .before in
+    let none = y .burns .ensures .0 (o .if2 .left) in
+    let v = no-five (none .2) (c .if3 .left) in
+    (λ h q. spared _ _ _ _ _ _ _ _ (s .pre .0) (a .add-margin .ensures) _ (k .unpack-facts .ensures) (judgedAs 0) 0 (no-class _ _ _ _ (none .0) v) refl refl (omega (arith, w .0, w .1)), omega arith)
+
+pub fire-row-spec : {M : Type 1} → statement M
+fire-row-spec =
+    tie.close
+    (tie.spec
+    add-margin-requires
+    mul-known
+    element-copy-out-known
+    mul-as-kept
+    element-copy-out-as-kept
+    as-kept-requires
+    unpack-facts-requires
+    returns
+    burns-requires
+    fire-requires
+    add-chance-requires
+    returns-2
+    returns-3
+    returns-4)

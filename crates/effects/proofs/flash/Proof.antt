@@ -1,0 +1,74 @@
+-- `effects::flash` meets its contract: on a target that has a row, or past the rows. Assumes nothing.
+use mathlib.Core.Path.{sym, _∙_}
+use native.Mathlib.Omega.{arith}
+use Rattle.effects.proofs.StepLaws.{row-of, next-row, taking-row, next-past, taking-past}
+use borrow.Author.Needs.{needs}
+use Rattle.effects.proofs.flash.Statement.{statement}
+use Rattle.effects.proofs.flash.Tie as tie
+
+half-at-1-requires : tie.Need-half-at-1-requires
+half-at-1-requires c κs = search needs
+
+word-at-3-requires : tie.Need-word-at-3-requires
+word-at-3-requires c κs = search needs
+
+half-at-7-requires : tie.Need-half-at-7-requires
+half-at-7-requires c κs = search needs
+
+effect-fault-requires : tie.Need-effect-fault-requires
+effect-fault-requires c κs = search needs
+
+cast-flash-row : tie.Need-cast-flash-row
+cast-flash-row c = search needs
+
+flash-row-requires : tie.Need-flash-row-requires
+flash-row-requires c κs =
+    let z = c .before .before .before in
+    let e = z .before in
+    let d = e .before in
+    let s = d .before .before .before .before in
+    let fault = sym (e .effect-fault .ensures) ∙ z .if1 .taken in
+    (row-of (s .args .targets) (s .args .limit) (s .args .b) (s .args .next) (s .args .p .now) _ _ _ (s .pre .0) (s .pre .1) (d .before .before .half-at-1 .ensures) (d .before .word-at-3 .ensures) (d .half-at-7 .ensures) fault, s .pre .2)
+
+cast-t19 : tie.Need-cast-t19
+cast-t19 c = search needs
+
+add-t20 : tie.Need-add-t20
+add-t20 c = search needs
+
+returns : tie.Need-returns
+returns c =
+    let z = c .before .before .before .before in
+    let e = z .before in
+    let d = e .before in
+    let s = d .before .before .before .before in
+    let fault = sym (e .effect-fault .ensures) ∙ z .if1 .taken in
+    ((next-row (s .args .targets) (s .args .limit) (s .args .b) (s .args .next) (s .args .p .now) _ _ _ (s .pre .0) (s .pre .1) (d .before .before .half-at-1 .ensures) (d .before .word-at-3 .ensures) (d .half-at-7 .ensures) fault, omega arith), taking-row (s .args .targets) (s .args .limit) (s .args .b) (s .args .next) (s .args .p .now) _ _ _ (s .pre .0) (s .pre .1) (d .before .before .half-at-1 .ensures) (d .before .word-at-3 .ensures) (d .half-at-7 .ensures) fault (c .flash-row .ensures))
+
+past-rows-requires : tie.Need-past-rows-requires
+past-rows-requires c κs = search needs
+
+returns-2 : tie.Need-returns-2
+returns-2 c =
+    let z = c .before in
+    let e = z .before in
+    let d = e .before in
+    let s = d .before .before .before .before in
+    let past = c .past-rows .ensures in
+    ((next-past (s .args .targets) (s .args .limit) (s .args .b) (s .args .next) (s .args .p .now) _ _ _ (s .pre .0) (s .pre .1) (d .before .before .half-at-1 .ensures) (d .before .word-at-3 .ensures) (d .half-at-7 .ensures) _ (past .0), omega (arith, past .1)), taking-past (s .args .targets) (s .args .limit) (s .args .b) (s .args .next) (s .args .p .now) _ _ _ (s .pre .0) (s .pre .1) (d .before .before .half-at-1 .ensures) (d .before .word-at-3 .ensures) (d .half-at-7 .ensures) (λ k. z .if1 .left (e .effect-fault .ensures ∙ k)) (past .1))
+
+pub flash-spec : {M : Type 1} → statement M
+flash-spec =
+    tie.close
+    (tie.spec
+    half-at-1-requires
+    word-at-3-requires
+    half-at-7-requires
+    effect-fault-requires
+    cast-flash-row
+    flash-row-requires
+    cast-t19
+    add-t20
+    returns
+    past-rows-requires
+    returns-2)
