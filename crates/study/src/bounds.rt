@@ -47,7 +47,7 @@ fn target_fault(targets: u16, number: u16, f: Target) -> u8
     3
 }
 
-fn leak_fault(scenarios: u32, last: u32, number: u32, frequency: u64) -> u8
+pub(crate) fn leak_fault(scenarios: u32, last: u32, number: u32, frequency: u64) -> u8
     ensures { λ r. ⌜ r ≡ leakFault scenarios last number frequency ⌝ }
 {
     if Study::MOST_SCENARIOS <= scenarios {
@@ -68,7 +68,7 @@ fn leak_fault(scenarios: u32, last: u32, number: u32, frequency: u64) -> u8
     4
 }
 
-fn outcome_fault(kind: u8, effects: u16) -> u8
+pub(crate) fn outcome_fault(kind: u8, effects: u16) -> u8
     ensures { λ r. ⌜ r ≡ outcomeFault kind effects ⌝ }
 {
     if Study::MOST_KIND < kind {
@@ -87,33 +87,18 @@ fn outcome_fault(kind: u8, effects: u16) -> u8
 }
 
 // The faults of each kind of record but for its place.
-pub(crate) fn own_outcome(p: &[u8]) -> u8
-    ensures { λ r. ⌜ r ≡ outcomeFault (field (now (p .entry)) 1 1) (field (now (p .entry)) 2 2) ⌝ }
-{
-    outcome_fault(decoding::byte_at_1(p), decoding::half_at_2(p))
-}
-
-pub(crate) fn own_branching(c: Core, p: &[u8], stack: &[u64; 9]) -> u8
-    ensures { λ r. ⌜ r ≡ branchingFault (aboveOf (top (now (stack .entry)) (c .branch .height))) (field (now (p .entry)) 1 4) ⌝ }
+pub(crate) fn own_branching(c: Core, chance: u32, stack: &[u64; 9]) -> u8
+    ensures { λ r. ⌜ r ≡ branchingFault (aboveOf (top (now (stack .entry)) (c .branch .height))) chance ⌝ }
 {
     let b = c.branch;
     let tree = trees::next_tree(stack, b.height);
     if Study::MOST_ABOVE < (tree % 16) as u8 {
         return 5;
     }
-    if Study::MOST_CHANCE < decoding::word_at_1(p) {
+    if Study::MOST_CHANCE < chance {
         return 3;
     }
     0
-}
-
-pub(crate) fn own_leak(c: Core, p: &[u8]) -> u8
-    ensures { λ r. ⌜ r ≡ leakFault (c .counts .scenarios) (c .counts .last) (field (now (p .entry)) 1 4) (field (now (p .entry)) 5 8) ⌝ }
-{
-    let number = decoding::word_at_1(p);
-    let frequency = decoding::long_at_5(p);
-    let k = c.counts;
-    leak_fault(k.scenarios, k.last, number, frequency)
 }
 
 pub(crate) fn own_target(c: Core, p: &[u8]) -> u8

@@ -9,9 +9,9 @@ ghost use Rattle.model.specs.Verdict.{bodyLength, decode, field, factsAt};
 ghost use Rattle.model.specs.Machine.{state, core, refusedWith, recordRead};
 ghost use Rattle.counting.specs.Kinds.{withKinds};
 ghost use Rattle.study.specs.Spans.{lengthOf};
+use crate::bounds::leak_fault;
+use crate::bounds::outcome_fault;
 use crate::bounds::own_branching;
-use crate::bounds::own_leak;
-use crate::bounds::own_outcome;
 use crate::bounds::own_target;
 use crate::bounds::place_fault;
 use faults::own_closing;
@@ -65,11 +65,14 @@ pub(crate) fn read_leak(c: Core, p: &[u8], stack: &mut [u64; 9]) -> Core
     if misplaced != 0 {
         return refused(c, misplaced);
     }
-    let own = own_leak(c, p);
+    let number = decoding::word_at_1(p);
+    let frequency = decoding::long_at_5(p);
+    let k = c.counts;
+    let own = leak_fault(k.scenarios, k.last, number, frequency);
     if own != 0 {
         return refused(c, own);
     }
-    trees::take_leak(c, p, stack)
+    trees::take_leak(c, number, frequency, stack)
 }
 
 pub(crate) fn read_branching(c: Core, p: &[u8], stack: &mut [u64; 9]) -> Core
@@ -81,11 +84,12 @@ pub(crate) fn read_branching(c: Core, p: &[u8], stack: &mut [u64; 9]) -> Core
     if misplaced != 0 {
         return refused(c, misplaced);
     }
-    let own = own_branching(c, p, stack);
+    let chance = decoding::word_at_1(p);
+    let own = own_branching(c, chance, stack);
     if own != 0 {
         return refused(c, own);
     }
-    trees::take_branching(c, p, stack)
+    trees::take_branching(c, chance, stack)
 }
 
 // The lent array has the totals of the kinds; those in the core are old.
@@ -98,11 +102,13 @@ pub(crate) fn read_outcome(c: Core, p: &[u8], stack: &[u64; 9], kinds: &mut [u64
     if misplaced != 0 {
         return refused(c, misplaced);
     }
-    let own = own_outcome(p);
+    let kind = decoding::byte_at_1(p);
+    let effects = decoding::half_at_2(p);
+    let own = outcome_fault(kind, effects);
     if own != 0 {
         return refused(c, own);
     }
-    trees::take_outcome(c, p, stack, kinds)
+    trees::take_outcome(c, kind, effects, stack, kinds)
 }
 
 fn read_closing(c: Core, p: &[u8]) -> Core

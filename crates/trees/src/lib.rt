@@ -2,7 +2,6 @@
 ghost use mathlib.Core.Path.{_≡_};
 ghost use Prim.Native.Nat.{_+_, _-_};
 ghost use Rattle.numeric.specs.Share.{splitOf};
-ghost use Rattle.model.specs.Verdict.{field};
 ghost use Rattle.model.specs.Machine.{core, taken, oneRecord, oneLeak, store, packed, aboveOf, top, leakStack, branchStack, leakBranch, branchedBranch, outcomeBranch, outcomeTally, frequencyOf};
 ghost use Rattle.counting.specs.Kinds.{withKinds};
 use state::Core;
@@ -60,12 +59,10 @@ pub fn next_tree(l: &[u64; 9], height: u8) -> u64
     0
 }
 
-pub fn take_leak(c: Core, p: &[u8], stack: &mut [u64; 9]) -> Core
-    ensures { λ r. ⌜ r ≡ core (taken (c .reading) 0) (oneLeak (c .counts) (field (now (p .entry)) 1 4) (field (now (p .entry)) 5 8)) (leakBranch (c .branch) (field (now (p .entry)) 5 8)) (c .tally) ⌝ }
-    ensures { λ r. ⌜ now (stack .exit) ≡ leakStack (now (stack .entry)) (field (now (p .entry)) 5 8) ⌝ }
+pub fn take_leak(c: Core, number: u32, frequency: u64, stack: &mut [u64; 9]) -> Core
+    ensures { λ r. ⌜ r ≡ core (taken (c .reading) 0) (oneLeak (c .counts) number frequency) (leakBranch (c .branch) frequency) (c .tally) ⌝ }
+    ensures { λ r. ⌜ now (stack .exit) ≡ leakStack (now (stack .entry)) frequency ⌝ }
 {
-    let number = decoding::word_at_1(p);
-    let frequency = decoding::long_at_5(p);
     put_tree(stack, 0, pack(frequency, 0));
     counting::core_leak(c, number, frequency)
 }
@@ -86,23 +83,20 @@ fn branch_stack(stack: &mut [u64; 9], height: u8, chance: u32)
     put_tree(stack, height, both.first);
 }
 
-pub fn take_branching(c: Core, p: &[u8], stack: &mut [u64; 9]) -> Core
+pub fn take_branching(c: Core, chance: u32, stack: &mut [u64; 9]) -> Core
     ensures { λ r. ⌜ r ≡ core (taken (c .reading) 0) (oneRecord (c .counts)) (branchedBranch (c .branch)) (c .tally) ⌝ }
-    ensures { λ r. ⌜ now (stack .exit) ≡ branchStack (now (stack .entry)) (c .branch .height) (field (now (p .entry)) 1 4) ⌝ }
+    ensures { λ r. ⌜ now (stack .exit) ≡ branchStack (now (stack .entry)) (c .branch .height) chance ⌝ }
 {
-    let chance = decoding::word_at_1(p);
     let b = c.branch;
     branch_stack(stack, b.height, chance);
     counting::core_branching(c)
 }
 
 // The lent array has the totals of the kinds; those in the core are old, and stay.
-pub fn take_outcome(c: Core, p: &[u8], stack: &[u64; 9], kinds: &mut [u64; 6]) -> Core
-    ensures { λ r. ⌜ withKinds r (now (kinds .exit)) ≡ core (taken (c .reading) 0) (oneRecord (c .counts)) (outcomeBranch (c .branch) (top (now (stack .entry)) (c .branch .height)) (field (now (p .entry)) 1 1) (field (now (p .entry)) 2 2)) (outcomeTally (withKinds c (now (kinds .entry)) .tally) (field (now (p .entry)) 1 1) (frequencyOf (top (now (stack .entry)) (c .branch .height)))) ⌝ }
+pub fn take_outcome(c: Core, kind: u8, effects: u16, stack: &[u64; 9], kinds: &mut [u64; 6]) -> Core
+    ensures { λ r. ⌜ withKinds r (now (kinds .exit)) ≡ core (taken (c .reading) 0) (oneRecord (c .counts)) (outcomeBranch (c .branch) (top (now (stack .entry)) (c .branch .height)) kind effects) (outcomeTally (withKinds c (now (kinds .entry)) .tally) kind (frequencyOf (top (now (stack .entry)) (c .branch .height)))) ⌝ }
     ensures { λ r. ⌜ r .tally ≡ c .tally ⌝ }
 {
-    let kind = decoding::byte_at_1(p);
-    let effects = decoding::half_at_2(p);
     let b = c.branch;
     let tree = next_tree(stack, b.height);
     counting::core_outcome(c, tree, kind, effects, kinds)

@@ -16,17 +16,14 @@ returns : tie.Need-returns
 unfolding branchingFault
 returns c = rw (← c .before .next-tree .ensures) (lt-case _ _ _ _ (c .if1 .taken) refl)
 
-word-at-1-requires : tie.Need-word-at-1-requires
-word-at-1-requires c κs = search needs
-
 returns-2 : tie.Need-returns-2
 unfolding branchingFault
-returns-2 c = rw (← c .before .before .before .next-tree .ensures, ← c .before .word-at-1 .ensures) (ge-case _ _ _ _ (c .before .before .if1 .left) (lt-case _ _ _ _ (c .if2 .taken) refl))
+returns-2 c = rw (← c .before .before .next-tree .ensures) (ge-case _ _ _ _ (c .before .if1 .left) (lt-case _ _ _ _ (c .if2 .taken) refl))
 
 returns-3 : tie.Need-returns-3
 unfolding branchingFault
-returns-3 c = rw (← c .before .before .before .next-tree .ensures, ← c .before .word-at-1 .ensures) (ge-case _ _ _ _ (c .before .before .if1 .left) (ge-case _ _ _ _ (c .if2 .left) refl))
+returns-3 c = rw (← c .before .before .next-tree .ensures) (ge-case _ _ _ _ (c .before .if1 .left) (ge-case _ _ _ _ (c .if2 .left) refl))
 
 pub own-branching-spec : {M : Type 1} → statement M
 own-branching-spec =
-    tie.close (tie.spec next-tree-requires cast-if1 returns word-at-1-requires returns-2 returns-3)
+    tie.close (tie.spec next-tree-requires cast-if1 returns returns-2 returns-3)

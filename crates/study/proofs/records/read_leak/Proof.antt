@@ -16,8 +16,14 @@ returns : tie.Need-returns
 unfolding withReading
 returns c = (λ q s m f. rw (c .before .before .before .before .pre) (place-refused _ _ _ (c .before .before .place-fault .ensures) (c .before .if1 .taken) (rw (c .refused .ensures) refl)), rw (c .refused .ensures) refl)
 
-own-leak-requires : tie.Need-own-leak-requires
-own-leak-requires c κs = search needs
+word-at-1-requires : tie.Need-word-at-1-requires
+word-at-1-requires c κs = search needs
+
+long-at-5-requires : tie.Need-long-at-5-requires
+long-at-5-requires c κs = search needs
+
+leak-fault-requires : tie.Need-leak-fault-requires
+leak-fault-requires c κs = search needs
 
 refused-requires-2 : tie.Need-refused-requires-2
 refused-requires-2 c κs = search needs
@@ -25,10 +31,13 @@ refused-requires-2 c κs = search needs
 returns-2 : tie.Need-returns-2
 unfolding ownFaultIn withReading
 returns-2 c =
-    let p = c .before .before .before .before in (
-      λ q s m f.
-          rw (p .before .before .pre)
-          (own-refused _ _ _ _ (p .place-fault .ensures) (c .before .before .before .if1 .left) (c .before .before .own-leak .ensures) (c .before .if2 .taken) (rw (c .refused2 .ensures) refl)),
+    let o = c .before .before in
+    let l = o .before .before in
+    let w = l .before in
+    let e = w .before in
+    let p = e .before in
+    let own = rw (w .word-at-1 .ensures, l .long-at-5 .ensures) at (o .leak-fault .ensures) in (
+      λ q s m f. rw (p .before .before .pre) (own-refused _ _ _ _ (p .place-fault .ensures) (e .if1 .left) own (c .before .if2 .taken) (rw (c .refused2 .ensures) refl)),
       rw (c .refused2 .ensures) refl,
     )
 
@@ -38,10 +47,15 @@ take-leak-requires c κs = search needs
 returns-3 : tie.Need-returns-3
 unfolding accepted ownFaultIn
 returns-3 c =
-    let p = c .before .before .before .before .before in (
+    let o = c .before .before .before in
+    let l = o .before .before in
+    let w = l .before in
+    let e = w .before in
+    let p = e .before in
+    let own = rw (w .word-at-1 .ensures, l .long-at-5 .ensures) at (o .leak-fault .ensures) in (
       λ q s m f.
           rw (p .before .before .pre)
-          (without-fault _ _ _ _ (p .place-fault .ensures) (c .before .before .before .before .if1 .left) (c .before .before .before .own-leak .ensures) (c .before .before .if2 .left) (rw (c .take-leak .ensures .0, c .take-leak .ensures .1) refl)),
+          (without-fault _ _ _ _ (p .place-fault .ensures) (e .if1 .left) own (c .before .before .if2 .left) (rw (c .take-leak .ensures .0, c .take-leak .ensures .1, w .word-at-1 .ensures, l .long-at-5 .ensures) refl)),
       rw (c .take-leak .ensures .0) refl,
     )
 
@@ -52,7 +66,9 @@ read-leak-spec =
     place-fault-requires
     refused-requires
     returns
-    own-leak-requires
+    word-at-1-requires
+    long-at-5-requires
+    leak-fault-requires
     refused-requires-2
     returns-2
     take-leak-requires

@@ -26,8 +26,14 @@ returns c =
       rw (c .refused .ensures) refl,
     )
 
-own-outcome-requires : tie.Need-own-outcome-requires
-own-outcome-requires c κs = search needs
+byte-at-1-requires : tie.Need-byte-at-1-requires
+byte-at-1-requires c κs = search needs
+
+half-at-2-requires : tie.Need-half-at-2-requires
+half-at-2-requires c κs = search needs
+
+outcome-fault-requires : tie.Need-outcome-fault-requires
+outcome-fault-requires c κs = search needs
 
 refused-requires-2 : tie.Need-refused-requires-2
 refused-requires-2 c κs = search needs
@@ -35,11 +41,16 @@ refused-requires-2 c κs = search needs
 returns-2 : tie.Need-returns-2
 unfolding ownFaultIn withReading placeFault
 returns-2 c =
-    let p = c .before .before .before .before in
-    let a = p .before .before in (
+    let o = c .before .before in
+    let h = o .before in
+    let b = h .before in
+    let e = b .before in
+    let p = e .before in
+    let a = p .before .before in
+    let own = rw (b .byte-at-1 .ensures, h .half-at-2 .ensures) at (o .outcome-fault .ensures) in (
       λ q s m f.
           rw (a .pre)
-          (own-refused (state (withKinds (a .args .c) (a .args .kinds .now)) q (a .args .stack .now) s m f) _ _ _ (p .place-fault .ensures) (c .before .before .before .if1 .left) (c .before .before .own-outcome .ensures) (c .before .if2 .taken) (rw (c .refused2 .ensures) refl)),
+          (own-refused (state (withKinds (a .args .c) (a .args .kinds .now)) q (a .args .stack .now) s m f) _ _ _ (p .place-fault .ensures) (e .if1 .left) own (c .before .if2 .taken) (rw (c .refused2 .ensures) refl)),
       rw (c .refused2 .ensures) refl,
     )
 
@@ -49,12 +60,17 @@ take-outcome-requires c κs = search needs
 returns-3 : tie.Need-returns-3
 unfolding accepted ownFaultIn placeFault
 returns-3 c =
-    let p = c .before .before .before .before .before in
-    let a = p .before .before in (
+    let o = c .before .before .before in
+    let h = o .before in
+    let b = h .before in
+    let e = b .before in
+    let p = e .before in
+    let a = p .before .before in
+    let own = rw (b .byte-at-1 .ensures, h .half-at-2 .ensures) at (o .outcome-fault .ensures) in (
       λ q s m f.
           rw (a .pre)
-          (without-fault (state (withKinds (a .args .c) (a .args .kinds .now)) q (a .args .stack .now) s m f) _ _ _ (p .place-fault .ensures) (c .before .before .before .before .if1 .left) (c .before .before .before .own-outcome .ensures) (c .before .before .if2 .left)
-          (ap (λ (x : Core). state x q (a .args .stack .now) s m f) (c .take-outcome .ensures .0))),
+          (without-fault (state (withKinds (a .args .c) (a .args .kinds .now)) q (a .args .stack .now) s m f) _ _ _ (p .place-fault .ensures) (e .if1 .left) own (c .before .before .if2 .left)
+          (ap (λ (x : Core). state x q (a .args .stack .now) s m f) (rw (b .byte-at-1 .ensures, h .half-at-2 .ensures) at (c .take-outcome .ensures .0)))),
       c .take-outcome .ensures .1,
     )
 
@@ -65,7 +81,9 @@ read-outcome-spec =
     place-fault-requires
     refused-requires
     returns
-    own-outcome-requires
+    byte-at-1-requires
+    half-at-2-requires
+    outcome-fault-requires
     refused-requires-2
     returns-2
     take-outcome-requires
