@@ -6,7 +6,7 @@ use Prim.Native.Nat.{ℕ, zero, suc, _+_, _-_, _*_, _<_, _≤_}
 use native.Mathlib.Decide.{ℕ-discrete}
 use native.Mathlib.Omega.{arith}
 use native.Mathlib.Numerals.{add-one}
-use lib.ListN.{getD, take, drop}
+use lib.ListN.{take, drop}
 use lib.Seq.{getD-take}
 use Rattle.numeric.specs.Choice.{pick}
 use Rattle.state.specs.declared.Branch.{Branch}
@@ -14,7 +14,7 @@ use Rattle.model.specs.Verdict.{field}
 use Rattle.model.specs.Machine.{upTo, most32, store, rowOf, rowAfter}
 use Rattle.effects.specs.Judging.{judgedIn}
 use Rattle.effects.specs.Effects.{Figures, figures, afterEffect, afterEffects, sound}
-use Rattle.effects.specs.Steps.{Added, Taking, nextIn}
+use Rattle.effects.specs.Steps.{Taking, nextIn}
 
 -- sixteen bytes have every field of an effect
 field-window : (l : List ℕ) (i n : ℕ) → i + n ≤ 16 → field (take 16 l) i n ≡ field l i n

@@ -1,5 +1,5 @@
 -- An effect is taken or not, by the targets that have a row and by all that are declared. Assumes nothing.
-use mathlib.Core.Path.{_≡_, refl, sym, _∙_, ap, subst}
+use mathlib.Core.Path.{_≡_, refl, sym, _∙_, subst}
 use mathlib.Core.Bool.{Bool, true, false}
 use mathlib.Core.List.{List}
 use Prim.Native.Nat.{ℕ, _+_, _<_, _≤_, min}
@@ -52,10 +52,18 @@ module _ (k x t q d : ℕ) where
       let w : namingFault other x t ≡ namingFault targets x t = sym b ∙ a in
       rw w e
 
-module _ (targets limit : ℕ) (b : Branch) (x : ℕ) (p : List ℕ) (t q d : ℕ) (rows : limit ≡ min targets 256) (six : getD p 0 0 ≡ 6) (t-is : t ≡ field p 1 2) (q-is : q ≡ field p 3 4) (d-is : d ≡ field p 7 2) where
+-- the numbers of an effect are read from its bytes, and at most 256 of the declared targets have a row
+pub record Read (targets limit : ℕ) (p : List ℕ) (t q d : ℕ) : Type 0 where
+  pub rows : limit ≡ min targets 256
+  pub six : getD p 0 0 ≡ 6
+  pub target : t ≡ field p 1 2
+  pub intensity : q ≡ field p 3 4
+  pub duration : d ≡ field p 7 2
+
+module _ {targets limit : ℕ} (b : Branch) (x : ℕ) {p : List ℕ} {t q d : ℕ} (r : Read targets limit p t q d) where
   sound-by : sound targets (b .kind) x p ≡ ifEq (effectFault targets (b .kind) x t q d) 0 true false
   unfolding sound
-  sound-by = rw (t-is, q-is, d-is) (sym (eq-case _ _ _ _ six refl))
+  sound-by = rw (r .target, r .intensity, r .duration) (sym (eq-case _ _ _ _ (r .six) refl))
 
   sound-is : effectFault targets (b .kind) x t q d ≡ 0 → sound targets (b .kind) x p ≡ true
   sound-is e = sound-by ∙ sym (eq-case _ _ _ _ e refl)
@@ -64,32 +72,32 @@ module _ (targets limit : ℕ) (b : Branch) (x : ℕ) (p : List ℕ) (t q d : �
   fault-is e = eq-elim (sym sound-by ∙ e) (λ h a. h) (λ h a. no-false a)
 
   within : effectFault limit (b .kind) x t q d ≡ 0 → (effectFault targets (b .kind) x t q d ≡ 0) × (t < 256)
-  within e = let n = names (b .kind) x t q d limit e in (same (b .kind) x t q d limit targets (omega (arith, n .1, rows)) e, omega (arith, n .1, rows))
+  within e = let n = names (b .kind) x t q d limit e in (same (b .kind) x t q d limit targets (omega (arith, n .1, r .rows)) e, omega (arith, n .1, r .rows))
 
   pub row-of : effectFault limit (b .kind) x t q d ≡ 0 → t < 256
   row-of e = within e .1
 
   -- on a target that has a row
   pub next-row : effectFault limit (b .kind) x t q d ≡ 0 → t + 1 ≡ nextIn targets b x p
-  next-row e = rw (sound-is (within e .0), t-is) refl
+  next-row e = rw (sound-is (within e .0), r .target) refl
 
   pub taking-row : {s m f s' m' f' : List ℕ} {missed : ℕ} → effectFault limit (b .kind) x t q d ≡ 0 → Added b t q d s m f missed s' m' f' → Taking targets b x p s m f missed s' m' f'
-  taking-row e a = record { taken = λ h. rw (← t-is, ← q-is, ← d-is) a; left = λ h. no-false (sym h ∙ sound-is (within e .0)) }
+  taking-row e a = record { taken = λ h. rw (← r .target, ← r .intensity, ← r .duration) a; left = λ h. no-false (sym h ∙ sound-is (within e .0)) }
 
   -- on one that has none
-  pub next-past : (r : ℕ) → r ≡ ifEq (effectFault targets (b .kind) x t q d) 0 (t + 1) 0 → r ≡ nextIn targets b x p
-  next-past r e = e ∙ chosen (effectFault targets (b .kind) x t q d) (t + 1) ∙ rw (sound-by, ← t-is) refl
+  pub next-past : (n : ℕ) → n ≡ ifEq (effectFault targets (b .kind) x t q d) 0 (t + 1) 0 → n ≡ nextIn targets b x p
+  next-past n e = e ∙ chosen (effectFault targets (b .kind) x t q d) (t + 1) ∙ rw (sound-by, ← r .target) refl
 
   pub taking-past : {s m f : List ℕ} {missed : ℕ} → (effectFault limit (b .kind) x t q d ≡ 0 → ⊥) → missed ≡ 0 → Taking targets b x p s m f missed s m f
   taking-past {s} {m} {f} {missed} n z =
       record {
-        taken = λ h. rw (← t-is, ← q-is, ← d-is, z) (past-added b t q d s m f (beyond (fault-is h) (decLe 256 t)));
+        taken = λ h. rw (← r .target, ← r .intensity, ← r .duration, z) (past-added b t q d s m f (beyond (fault-is h) (decLe 256 t)));
         left = λ h. (refl, refl, refl);
       }
     where
       beyond : effectFault targets (b .kind) x t q d ≡ 0 → Dec (256 ≤ t) → 256 ≤ t
       beyond e (yes w) = w
-      beyond e (no w) = let v = names (b .kind) x t q d targets e in absurd (n (same (b .kind) x t q d targets limit (omega (arith, v .1, rows, w)) e))
+      beyond e (no w) = let v = names (b .kind) x t q d targets e in absurd (n (same (b .kind) x t q d targets limit (omega (arith, v .1, r .rows, w)) e))
 
 -- bytes that begin with no effect
 module _ (targets : ℕ) (b : Branch) (x : ℕ) (p : List ℕ) (other : getD p 0 0 ≡ 6 → ⊥) where

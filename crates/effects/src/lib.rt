@@ -6,7 +6,7 @@ ghost use Prim.Native.Nat.{ℕ, _+_, _-_, _*_, _/_, _<_, _≤_, min};
 ghost use lib.ListN.{length, getD, drop};
 ghost use Rattle.log2.specs.Logarithm.{Thresholds};
 ghost use Rattle.probit.specs.Table.{RowsReached};
-ghost use Rattle.terms.specs.Terms.{fireball, flashFire, explosion};
+ghost use Rattle.terms.specs.Terms.{fireball, flashFire};
 ghost use Rattle.numeric.specs.Choice.{ifEq};
 ghost use Rattle.model.specs.Faults.{effectFault};
 ghost use Rattle.model.specs.Machine.{upTo, most32, most64, store, markedFacts};

@@ -1,5 +1,5 @@
 -- Effects that follow one another leave what their bytes leave when they are read one by one. Assumes nothing.
-use mathlib.Core.Path.{_≡_, refl, sym, _∙_, ap, subst}
+use mathlib.Core.Path.{_≡_, refl, sym, _∙_, subst}
 use mathlib.Core.Bool.{Bool, true, false}
 use mathlib.Core.List.{List}
 use Prim.Native.Nat.{ℕ, zero, suc, _+_, _-_, _*_, _<_, _≤_}
@@ -9,7 +9,6 @@ use lib.Dec.{T}
 use Rattle.numeric.specs.Choice.{pick, ifEq}
 use Rattle.numeric.proofs.ChoiceLaws.{eq-case, ne-case, lt-case, gt-case, eq-first}
 use Rattle.state.specs.declared.Core.{Core}
-use Rattle.state.specs.declared.Reading.{Reading}
 use Rattle.model.specs.Bounds.{mostRecords}
 use Rattle.model.specs.Content.{inSeconds}
 use Rattle.model.specs.Format.{effectRec}
@@ -22,10 +21,10 @@ use Rattle.effects.specs.Judging.{judgedIn}
 use Rattle.effects.specs.Effects.{Figures, figures, afterEffect, afterEffects, sound}
 use Rattle.effects.proofs.Laws.{effects-more}
 use Rattle.study.specs.Placing.{placeFault}
-use Rattle.study.specs.Spans.{Between, Next, lengthOf, afterFirst, Records}
-use Rattle.study.specs.Following.{readingAfter, coreAfter}
+use Rattle.study.specs.Spans.{Next, lengthOf, afterFirst, Records}
+use Rattle.study.specs.Following.{coreAfter}
 use Rattle.study.proofs.RecordLaws.{without-fault}
-use Rattle.study.proofs.SpanLaws.{entering, effect-length, rest, rest-is, read-alone, one-read, records-alone, records-more, standing-next, reached-next}
+use Rattle.study.proofs.SpanLaws.{entering, effect-length, rest-is, read-alone, one-read, records-alone, records-more, standing-next, reached-next}
 
 -- an effect in its place
 place-zero : (c : Core) → (c .counts .records ≡ 0 → ⊥) → 0 < c .branch .left → c .counts .records < mostRecords → 0 ≡ placeFault c 6

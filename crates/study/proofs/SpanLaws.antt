@@ -19,7 +19,7 @@ use Rattle.model.proofs.Accepts.{WholeBytes}
 use Rattle.model.proofs.ReadLaws.{Ready, partial, read-append, read-whole, cleared-same}
 use Rattle.model.proofs.CodecLaws.{body-most, decode-prefix, pending-decode}
 use Rattle.reading.proofs.EnterLaws.{store-wide}
-use Rattle.study.specs.Spans.{Between, lengthOf, Next, afterFirst, Records}
+use Rattle.study.specs.Spans.{lengthOf, Next, afterFirst, Records}
 
 -- ---- a record at once
 

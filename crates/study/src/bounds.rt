@@ -86,7 +86,7 @@ pub(crate) fn outcome_fault(kind: u8, effects: u16) -> u8
     0
 }
 
-// The faults of each kind of record but for its place.
+// The faults of a branching and of a target but for their place.
 pub(crate) fn own_branching(c: Core, chance: u32, stack: &[u64; 9]) -> u8
     ensures { λ r. ⌜ r ≡ branchingFault (aboveOf (top (now (stack .entry)) (c .branch .height))) chance ⌝ }
 {

@@ -1,10 +1,8 @@
 -- `effects::burns` meets its contract. Assumes nothing.
-use mathlib.Core.Bool.{true, false}
 use mathlib.Core.Path.{sym, subst}
 use mathlib.Core.Logic.{inl, inr}
 use native.Mathlib.Omega.{arith}
 use lib.Dec.{T}
-use borrow.Author.Needs.{needs}
 use Rattle.effects.proofs.burns.Statement.{statement}
 use Rattle.effects.proofs.burns.Tie as tie
 

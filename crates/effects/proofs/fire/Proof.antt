@@ -1,7 +1,7 @@
 -- `effects::fire` meets its contract: on a target that has a row, or past the rows. Assumes nothing.
 use mathlib.Core.Path.{sym, _∙_}
 use native.Mathlib.Omega.{arith}
-use Rattle.effects.proofs.StepLaws.{row-of, next-row, taking-row, next-past, taking-past}
+use Rattle.effects.proofs.StepLaws.{Read, row-of, next-row, taking-row, next-past, taking-past}
 use borrow.Author.Needs.{needs}
 use Rattle.effects.proofs.fire.Statement.{statement}
 use Rattle.effects.proofs.fire.Tie as tie
@@ -21,14 +21,19 @@ effect-fault-requires c κs = search needs
 cast-fire-row : tie.Need-cast-fire-row
 cast-fire-row c = search needs
 
+-- the effect's numbers
+read-at : (c : tie.After-effect-fault) → let d = c .before in let s = d .before .before .before .before in Read (s .args .targets) (s .args .limit) (s .args .p .now) (d .before .before .half-at-1 .result) (d .before .word-at-3 .result) (d .half-at-7 .result)
+read-at c =
+    let d = c .before in
+    let s = d .before .before .before .before in
+    record { rows = s .pre .0; six = s .pre .1; target = d .before .before .half-at-1 .ensures; intensity = d .before .word-at-3 .ensures; duration = d .half-at-7 .ensures }
+
 fire-row-requires : tie.Need-fire-row-requires
 fire-row-requires c κs =
     let z = c .before .before .before in
     let e = z .before in
-    let d = e .before in
-    let s = d .before .before .before .before in
-    let fault = sym (e .effect-fault .ensures) ∙ z .if1 .taken in
-    (row-of (s .args .targets) (s .args .limit) (s .args .b) (s .args .next) (s .args .p .now) _ _ _ (s .pre .0) (s .pre .1) (d .before .before .half-at-1 .ensures) (d .before .word-at-3 .ensures) (d .half-at-7 .ensures) fault, s .pre .2)
+    let s = e .before .before .before .before .before in
+    (row-of (s .args .b) (s .args .next) (read-at e) (sym (e .effect-fault .ensures) ∙ z .if1 .taken), s .pre .2)
 
 cast-t21 : tie.Need-cast-t21
 cast-t21 c = search needs
@@ -40,10 +45,9 @@ returns : tie.Need-returns
 returns c =
     let z = c .before .before .before .before in
     let e = z .before in
-    let d = e .before in
-    let s = d .before .before .before .before in
+    let s = e .before .before .before .before .before in
     let fault = sym (e .effect-fault .ensures) ∙ z .if1 .taken in
-    ((next-row (s .args .targets) (s .args .limit) (s .args .b) (s .args .next) (s .args .p .now) _ _ _ (s .pre .0) (s .pre .1) (d .before .before .half-at-1 .ensures) (d .before .word-at-3 .ensures) (d .half-at-7 .ensures) fault, c .fire-row .ensures .1), λ h q. taking-row (s .args .targets) (s .args .limit) (s .args .b) (s .args .next) (s .args .p .now) _ _ _ (s .pre .0) (s .pre .1) (d .before .before .half-at-1 .ensures) (d .before .word-at-3 .ensures) (d .half-at-7 .ensures) fault (c .fire-row .ensures .0 h q))
+    ((next-row (s .args .b) (s .args .next) (read-at e) fault, c .fire-row .ensures .1), λ h q. taking-row (s .args .b) (s .args .next) (read-at e) fault (c .fire-row .ensures .0 h q))
 
 past-rows-requires : tie.Need-past-rows-requires
 past-rows-requires c κs = search needs
@@ -52,10 +56,9 @@ returns-2 : tie.Need-returns-2
 returns-2 c =
     let z = c .before in
     let e = z .before in
-    let d = e .before in
-    let s = d .before .before .before .before in
+    let s = e .before .before .before .before .before in
     let past = c .past-rows .ensures in
-    ((next-past (s .args .targets) (s .args .limit) (s .args .b) (s .args .next) (s .args .p .now) _ _ _ (s .pre .0) (s .pre .1) (d .before .before .half-at-1 .ensures) (d .before .word-at-3 .ensures) (d .half-at-7 .ensures) _ (past .0), omega (arith, past .1)), λ h q. taking-past (s .args .targets) (s .args .limit) (s .args .b) (s .args .next) (s .args .p .now) _ _ _ (s .pre .0) (s .pre .1) (d .before .before .half-at-1 .ensures) (d .before .word-at-3 .ensures) (d .half-at-7 .ensures) (λ k. z .if1 .left (e .effect-fault .ensures ∙ k)) (past .1))
+    ((next-past (s .args .b) (s .args .next) (read-at e) _ (past .0), omega (arith, past .1)), λ h q. taking-past (s .args .b) (s .args .next) (read-at e) (λ k. z .if1 .left (e .effect-fault .ensures ∙ k)) (past .1))
 
 pub fire-spec : {M : Type 1} → statement M
 fire-spec =

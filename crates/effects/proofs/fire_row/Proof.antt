@@ -1,7 +1,7 @@
 -- `effects::fire_row` meets its contract, class by class. Assumes nothing.
 use mathlib.Core.Path.{_≡_, refl}
 use Prim.Native.Nat.{ℕ, _<_}
-use mathlib.Core.Logic.{inl, inr, ⊎-elim}
+use mathlib.Core.Logic.{inl}
 use native.Mathlib.Omega.{arith}
 use Rattle.terms.specs.Terms.{judgedAs, unjudged}
 use Rattle.vulnerability.proofs.FormLaws.{fire-judged, unjudged-fire, no-class, without-effect}

@@ -1,8 +1,8 @@
 -- `effects::flash_row` meets its contract: people alone are harmed. Assumes nothing.
 use mathlib.Core.Path.{refl}
-use mathlib.Core.Logic.{inl, inr, ⊎-elim}
+use mathlib.Core.Logic.{inr}
 use native.Mathlib.Omega.{arith}
-use Rattle.terms.specs.Terms.{judgedAs, unjudged}
+use Rattle.terms.specs.Terms.{judgedAs}
 use Rattle.vulnerability.proofs.FormLaws.{judged-of, people-flash, equipment-spared}
 use Rattle.effects.proofs.RowLaws.{added, spared}
 use borrow.Author.Needs.{needs}

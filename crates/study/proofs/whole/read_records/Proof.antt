@@ -1,13 +1,12 @@
 -- `study::whole::read_records` meets its contract: each turn reads a record more, or effects or records of trees in a row. Assumes nothing.
-use mathlib.Core.Path.{_≡_}
 use mathlib.Core.List.{List}
-use Prim.Native.Nat.{ℕ, _+_, _-_, _≤_}
+use Prim.Native.Nat.{ℕ, _+_, _-_}
 use native.Mathlib.Omega.{arith}
 use lib.ListN.{length, drop, length-drop}
 use Rattle.model.specs.Machine.{state}
 use Rattle.counting.specs.Kinds.{withKinds}
 use Rattle.study.specs.Spans.{Next, Records}
-use Rattle.study.proofs.SpanLaws.{Standing, Reached, standing-start, reached-start, rest, rest-is, more-read, records-more, standing-next, reached-next}
+use Rattle.study.proofs.SpanLaws.{Standing, Reached, standing-start, reached-start, rest-is, more-read, records-more, standing-next, reached-next}
 use borrow.Author.Needs.{needs}
 use Rattle.study.proofs.whole.read_records.Statement.{statement}
 use Rattle.study.proofs.whole.read_records.Tie as tie
