@@ -5,13 +5,9 @@ use mathlib.Core.List.{List}
 use Prim.Native.Nat.{ℕ}
 use lib.Dec.{eqb}
 use Rattle.numeric.specs.Choice.{pick, ifEq}
-use Rattle.state.specs.declared.Branch.{Branch}
 use Rattle.state.specs.declared.Core.{Core}
-use Rattle.state.specs.declared.Counts.{Counts}
-use Rattle.state.specs.declared.Reading.{Reading}
-use Rattle.state.specs.declared.Tally.{Tally}
 use Rattle.model.specs.Format.{Record, openingRec, targetRec, leakRec, branchingRec, outcomeRec, effectRec, closingRec}
-use Rattle.model.specs.Machine.{State, state, core, ownFaultIn, faultIn, studyTally, effectTally, effectState, accepted, withReading, recordRead}
+use Rattle.model.specs.Machine.{State, state, ownFaultIn, faultIn, studyTally, effectTally, effectState, accepted, withReading, recordRead}
 use Rattle.counting.specs.Kinds.{withKinds}
 
 unfoldable kinded : List ℕ → State → State
@@ -49,8 +45,3 @@ pub other-read : (l : List ℕ) (c d : Core) (q k u m f k' u' m' f' : List ℕ) 
     → state (withKinds d l) q k' u' m' f' ≡ recordRead (state (withKinds c l) q k u m f) x
 unfolding kinded
 other-read l c d q k u m f k' u' m' f' x r h o e = ap (kinded l) e ∙ kinds-stay l (state c q k u m f) x (rw h o)
-
--- what is said of a study is said of it with its parts that go by value put together, where the totals but those of the kinds stay
-pub parts-read : (d : Core) (h : Reading) (k : Counts) (b : Branch) (y : Tally) → h ≡ d .reading → k ≡ d .counts → b ≡ d .branch → d .tally ≡ y
-    → (l q t s m f : List ℕ) {r : State} → state (withKinds d l) q t s m f ≡ r → state (withKinds (core h k b y) l) q t s m f ≡ r
-parts-read d h k b y u v w z l q t s m f e = rw (u, v, w, ← z) e

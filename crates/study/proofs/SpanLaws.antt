@@ -99,10 +99,10 @@ rest-is l i = take-all (length l - i) (drop i l) (let d = length-drop i l in ome
 pub length-at : {j k : ℕ} → j ≡ k → bodyLength j + 1 ≡ bodyLength k + 1
 length-at e = ap (λ (x : ℕ). bodyLength x + 1) e
 
--- the kinds of a tree are known
-pub tree-known : (k : ℕ) → 3 ≤ k → k ≤ 5 → 0 < bodyLength k
+-- the kinds of a scenario's records are known
+pub scenario-known : (k : ℕ) → 3 ≤ k → k ≤ 6 → 0 < bodyLength k
 unfolding bodyLength
-tree-known k h w =
+scenario-known k h w =
     let z : bodyLength k ≡ 0 → ⊥ =
     λ e.
     let a = eq-second _ _ _ _ _ e (λ q. omega arith) in
@@ -110,7 +110,8 @@ tree-known k h w =
     let leak = eq-second _ _ _ _ _ (b .1) (λ q. omega arith) in
     let branching = eq-second _ _ _ _ _ (leak .1) (λ q. omega arith) in
     let outcome = eq-second _ _ _ _ _ (branching .1) (λ q. omega arith) in
-    omega (arith, leak .0, branching .0, outcome .0) in
+    let effect = eq-second _ _ _ _ _ (outcome .1) (λ q. omega arith) in
+    omega (arith, leak .0, branching .0, outcome .0, effect .0) in
     omega (arith, z)
 
 -- an effect has nine bytes

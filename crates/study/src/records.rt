@@ -59,7 +59,6 @@ fn read_target(c: Core, p: &[u8], facts: &mut [u64; 256]) -> Core
 pub(crate) fn read_leak(c: Core, p: &[u8], stack: &mut [u64; 9]) -> Core
     requires { ⌜ decode (now p) ≡ leakRec (field (now p) 1 4) (field (now p) 5 8) ⌝ }
     ensures { λ r. ⌜ ((q s m f : List ℕ) → state r q (now (stack .exit)) s m f ≡ recordRead (state c q (now (stack .entry)) s m f) (decode (now (p .entry)))) ⌝ }
-    ensures { λ r. ⌜ r .tally ≡ c .tally ⌝ }
 {
     let misplaced = place_fault(c, 3);
     if misplaced != 0 {
@@ -78,7 +77,6 @@ pub(crate) fn read_leak(c: Core, p: &[u8], stack: &mut [u64; 9]) -> Core
 pub(crate) fn read_branching(c: Core, p: &[u8], stack: &mut [u64; 9]) -> Core
     requires { ⌜ decode (now p) ≡ branchingRec (given (field (now p) 1 4)) ⌝ }
     ensures { λ r. ⌜ ((q s m f : List ℕ) → state r q (now (stack .exit)) s m f ≡ recordRead (state c q (now (stack .entry)) s m f) (decode (now (p .entry)))) ⌝ }
-    ensures { λ r. ⌜ r .tally ≡ c .tally ⌝ }
 {
     let misplaced = place_fault(c, 4);
     if misplaced != 0 {
@@ -96,7 +94,6 @@ pub(crate) fn read_branching(c: Core, p: &[u8], stack: &mut [u64; 9]) -> Core
 pub(crate) fn read_outcome(c: Core, p: &[u8], stack: &[u64; 9], kinds: &mut [u64; 6]) -> Core
     requires { ⌜ decode (now p) ≡ outcomeRec (field (now p) 1 1) (field (now p) 2 2) ⌝ }
     ensures { λ r. ⌜ ((q s m f : List ℕ) → state (withKinds r (now (kinds .exit))) q (now (stack .entry)) s m f ≡ recordRead (state (withKinds c (now (kinds .entry))) q (now (stack .entry)) s m f) (decode (now (p .entry)))) ⌝ }
-    ensures { λ r. ⌜ r .tally ≡ c .tally ⌝ }
 {
     let misplaced = place_fault(c, 5);
     if misplaced != 0 {

@@ -11,12 +11,11 @@ ghost use Rattle.model.specs.Verdict.{decode};
 ghost use Rattle.model.specs.Machine.{core, reading, state, recordRead, cleared, step, readAll};
 ghost use Rattle.counting.specs.Kinds.{withKinds};
 ghost use Rattle.study.specs.Spans.{Between, Next, lengthOf, afterFirst, Records};
-use crate::following::read_effects;
 use crate::records::Run;
 use crate::records::read_other;
 use crate::scenarios::begun;
 use crate::scenarios::between;
-use crate::scenarios::read_trees;
+use crate::scenarios::read_scenarios;
 use reading::Entered;
 use reading::enter_byte;
 use state::Core;
@@ -44,8 +43,7 @@ fn entered(c: Core, bytes: &[u8]) -> Core
     reading::core_reading(c, begun(c.reading, bytes))
 }
 
-// The record that the bytes begin with, which has been entered; after an effect also the effects that follow it, after a record of a tree those that
-// follow it.
+// The record that the bytes begin with, which has been entered; after a record of a scenario also those of scenarios that follow it.
 fn read_some(
     table: &[u32; 256],
     rows: &[u32; 544],
@@ -62,12 +60,19 @@ fn read_some(
     ensures { λ r. ⌜ ((q : List ℕ) → state (withKinds (r .core) (now (kinds .exit))) (replicate 16 0) (now (stack .exit)) (now (sums .exit)) (now (margins .exit)) (now (facts .exit)) ≡ afterFirst (state (withKinds c (now (kinds .entry))) q (now (stack .entry)) (now (sums .entry)) (now (margins .entry)) (now (facts .entry))) (now (bytes .entry)) (r .at)) ⌝ }
 {
     let kind = decoding::kind(bytes);
-    if kind == 6 {
-        return read_effects(table, rows, c, bytes, sums, margins, facts);
-    }
     if 3 <= kind {
-        if kind <= 5 {
-            return read_trees(c, bytes, stack, kinds);
+        if kind <= 6 {
+            return read_scenarios(
+                table,
+                rows,
+                c,
+                bytes,
+                stack,
+                sums,
+                margins,
+                facts,
+                kinds,
+            );
         }
     }
     read_other(c, bytes, facts)

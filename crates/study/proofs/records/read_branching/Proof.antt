@@ -14,7 +14,7 @@ refused-requires c κs = search needs
 
 returns : tie.Need-returns
 unfolding withReading
-returns c = (λ q s m f. rw (c .before .before .before .before .pre) (place-refused _ _ _ (c .before .before .place-fault .ensures) (c .before .if1 .taken) (rw (c .refused .ensures) refl)), rw (c .refused .ensures) refl)
+returns c q s m f = rw (c .before .before .before .before .pre) (place-refused _ _ _ (c .before .before .place-fault .ensures) (c .before .if1 .taken) (rw (c .refused .ensures) refl))
 
 word-at-1-requires : tie.Need-word-at-1-requires
 word-at-1-requires c κs = search needs
@@ -27,32 +27,27 @@ refused-requires-2 c κs = search needs
 
 returns-2 : tie.Need-returns-2
 unfolding ownFaultIn withReading
-returns-2 c =
+returns-2 c q s m f =
     let o = c .before .before in
     let w = o .before .before in
     let e = w .before in
     let p = e .before in
-    let own = rw (w .word-at-1 .ensures) at (o .own-branching .ensures) in (
-      λ q s m f. rw (p .before .before .pre) (own-refused _ _ _ _ (p .place-fault .ensures) (e .if1 .left) own (c .before .if2 .taken) (rw (c .refused2 .ensures) refl)),
-      rw (c .refused2 .ensures) refl,
-    )
+    let own = rw (w .word-at-1 .ensures) at (o .own-branching .ensures) in
+    rw (p .before .before .pre) (own-refused _ _ _ _ (p .place-fault .ensures) (e .if1 .left) own (c .before .if2 .taken) (rw (c .refused2 .ensures) refl))
 
 take-branching-requires : tie.Need-take-branching-requires
 take-branching-requires c κs = search needs
 
 returns-3 : tie.Need-returns-3
 unfolding accepted ownFaultIn
-returns-3 c =
+returns-3 c q s m f =
     let o = c .before .before .before in
     let w = o .before .before in
     let e = w .before in
     let p = e .before in
-    let own = rw (w .word-at-1 .ensures) at (o .own-branching .ensures) in (
-      λ q s m f.
-          rw (p .before .before .pre)
-          (without-fault _ _ _ _ (p .place-fault .ensures) (e .if1 .left) own (c .before .before .if2 .left) (rw (c .take-branching .ensures .0, c .take-branching .ensures .1, w .word-at-1 .ensures) refl)),
-      rw (c .take-branching .ensures .0) refl,
-    )
+    let own = rw (w .word-at-1 .ensures) at (o .own-branching .ensures) in
+    rw (p .before .before .pre)
+    (without-fault _ _ _ _ (p .place-fault .ensures) (e .if1 .left) own (c .before .before .if2 .left) (rw (c .take-branching .ensures .0, c .take-branching .ensures .1, w .word-at-1 .ensures) refl))
 
 pub read-branching-spec : {M : Type 1} → statement M
 read-branching-spec =

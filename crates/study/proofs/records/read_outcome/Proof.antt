@@ -17,14 +17,11 @@ refused-requires c κs = search needs
 
 returns : tie.Need-returns
 unfolding withReading placeFault
-returns c =
+returns c q s m f =
     let p = c .before .before in
-    let a = p .before .before in (
-      λ q s m f.
-          rw (a .pre)
-          (place-refused (state (withKinds (a .args .c) (a .args .kinds .now)) q (a .args .stack .now) s m f) _ _ (p .place-fault .ensures) (c .before .if1 .taken) (rw (c .refused .ensures) refl)),
-      rw (c .refused .ensures) refl,
-    )
+    let a = p .before .before in
+    rw (a .pre)
+    (place-refused (state (withKinds (a .args .c) (a .args .kinds .now)) q (a .args .stack .now) s m f) _ _ (p .place-fault .ensures) (c .before .if1 .taken) (rw (c .refused .ensures) refl))
 
 byte-at-1-requires : tie.Need-byte-at-1-requires
 byte-at-1-requires c κs = search needs
@@ -40,39 +37,33 @@ refused-requires-2 c κs = search needs
 
 returns-2 : tie.Need-returns-2
 unfolding ownFaultIn withReading placeFault
-returns-2 c =
+returns-2 c q s m f =
     let o = c .before .before in
     let h = o .before in
     let b = h .before in
     let e = b .before in
     let p = e .before in
     let a = p .before .before in
-    let own = rw (b .byte-at-1 .ensures, h .half-at-2 .ensures) at (o .outcome-fault .ensures) in (
-      λ q s m f.
-          rw (a .pre)
-          (own-refused (state (withKinds (a .args .c) (a .args .kinds .now)) q (a .args .stack .now) s m f) _ _ _ (p .place-fault .ensures) (e .if1 .left) own (c .before .if2 .taken) (rw (c .refused2 .ensures) refl)),
-      rw (c .refused2 .ensures) refl,
-    )
+    let own = rw (b .byte-at-1 .ensures, h .half-at-2 .ensures) at (o .outcome-fault .ensures) in
+    rw (a .pre)
+    (own-refused (state (withKinds (a .args .c) (a .args .kinds .now)) q (a .args .stack .now) s m f) _ _ _ (p .place-fault .ensures) (e .if1 .left) own (c .before .if2 .taken) (rw (c .refused2 .ensures) refl))
 
 take-outcome-requires : tie.Need-take-outcome-requires
 take-outcome-requires c κs = search needs
 
 returns-3 : tie.Need-returns-3
 unfolding accepted ownFaultIn placeFault
-returns-3 c =
+returns-3 c q s m f =
     let o = c .before .before .before in
     let h = o .before in
     let b = h .before in
     let e = b .before in
     let p = e .before in
     let a = p .before .before in
-    let own = rw (b .byte-at-1 .ensures, h .half-at-2 .ensures) at (o .outcome-fault .ensures) in (
-      λ q s m f.
-          rw (a .pre)
-          (without-fault (state (withKinds (a .args .c) (a .args .kinds .now)) q (a .args .stack .now) s m f) _ _ _ (p .place-fault .ensures) (e .if1 .left) own (c .before .before .if2 .left)
-          (ap (λ (x : Core). state x q (a .args .stack .now) s m f) (rw (b .byte-at-1 .ensures, h .half-at-2 .ensures) at (c .take-outcome .ensures .0)))),
-      c .take-outcome .ensures .1,
-    )
+    let own = rw (b .byte-at-1 .ensures, h .half-at-2 .ensures) at (o .outcome-fault .ensures) in
+    rw (a .pre)
+    (without-fault (state (withKinds (a .args .c) (a .args .kinds .now)) q (a .args .stack .now) s m f) _ _ _ (p .place-fault .ensures) (e .if1 .left) own (c .before .before .if2 .left)
+    (ap (λ (x : Core). state x q (a .args .stack .now) s m f) (rw (b .byte-at-1 .ensures, h .half-at-2 .ensures) at (c .take-outcome .ensures))))
 
 pub read-outcome-spec : {M : Type 1} → statement M
 read-outcome-spec =

@@ -5,8 +5,9 @@ use lib.ListN.{getD}
 use Rattle.numeric.specs.Choice.{ifEq}
 use Rattle.model.specs.Verdict.{bodyLength}
 use Rattle.decoding.proofs.DecodeLaws.{decode-leak, decode-branching, decode-outcome}
-use Rattle.study.proofs.SpanLaws.{length-at}
-use Rattle.study.proofs.KindTotalLaws.{Other, other-read, parts-read}
+use Rattle.study.specs.Spans.{lengthOf}
+use Rattle.study.proofs.SpanLaws.{length-at, read-alone, records-alone}
+use Rattle.study.proofs.KindTotalLaws.{Other, other-read}
 use borrow.Author.Needs.{needs}
 use Rattle.study.proofs.scenarios.read_one.Statement.{statement}
 use Rattle.study.proofs.scenarios.read_one.Tie as tie
@@ -14,67 +15,69 @@ use Rattle.study.proofs.scenarios.read_one.Tie as tie
 kind-requires : tie.Need-kind-requires
 kind-requires c κs = search needs
 
-read-outcome-requires : tie.Need-read-outcome-requires
-read-outcome-requires c κs = decode-outcome _ (sym (c .before .before .before .kind .ensures) ∙ c .before .before .if1 .taken)
-
-parts-requires : tie.Need-parts-requires
-parts-requires c κs = search needs
+read-effects-requires : tie.Need-read-effects-requires
+read-effects-requires c κs = search needs
 
 returns : tie.Need-returns
-unfolding bodyLength ifEq
-returns c =
-    let e = c .parts .ensures in
-    let k = c .before .before .before .before .before .kind .ensures in
-    let r = c .before .read-outcome in
-    (e .3 ∙ length-at (sym (c .before .before .before .before .if1 .taken) ∙ k), λ q s m f. parts-read (r .result) _ _ _ _ (e .0) (e .1) (e .2) (r .ensures .1) (r .last .1 .1 .1 .0) q _ s m f (r .ensures .0 q s m f))
+returns c = (c .read-effects .ensures .0, λ q. c .read-effects .ensures .1 (c .before .before .before .before .before .before .before .args .kinds .now) q _)
 
-read-branching-requires : tie.Need-read-branching-requires
-read-branching-requires c κs = decode-branching _ (sym (c .before .before .before .kind .ensures) ∙ c .before .if2 .taken)
+-- the kinds that the tests leave
+outcome-at : (c : tie.Then2) → getD (c .before .before .before .before .args .p .now) 0 0 ≡ 5
+outcome-at c = sym (c .before .before .kind .ensures) ∙ c .if2 .taken
 
-parts-requires-2 : tie.Need-parts-requires-2
-parts-requires-2 c κs = search needs
+branching-at : (c : tie.Then3) → getD (c .before .before .before .before .before .args .p .now) 0 0 ≡ 4
+branching-at c = sym (c .before .before .before .kind .ensures) ∙ c .if3 .taken
+
+leak-at : (c : tie.Else3) → getD (c .before .before .before .before .before .args .p .now) 0 0 ≡ 3
+leak-at c =
+    let k = c .before .before .before in
+    omega (arith, k .before .before .pre .3, k .before .before .pre .4, k .kind .ensures, c .before .before .if1 .left, c .before .if2 .left, c .if3 .left)
+
+read-outcome-requires : tie.Need-read-outcome-requires
+read-outcome-requires c κs = decode-outcome _ (outcome-at (c .before .before))
 
 returns-2 : tie.Need-returns-2
-unfolding bodyLength ifEq Other
+unfolding bodyLength ifEq
 returns-2 c =
-    let e = c .parts2 .ensures in
-    let k = sym (c .before .before .before .if2 .taken) ∙ c .before .before .before .before .before .kind .ensures in
-    let r = c .before .read-branching in
-    let a = c .before .before .before .before .before .before .before .args in
-    let d = decode-branching (a .p .now) (sym k) in
-    (e .3 ∙ length-at k, λ q s m f. parts-read (r .result) _ _ _ _ (e .0) (e .1) (e .2) (r .ensures .1) (a .kinds .now) q _ s m f (other-read (a .kinds .now) _ _ q _ s m f _ s m f _ _ d tt (r .ensures .0 q s m f)))
+    let a = c .before .before .before .before .before .before .before in
+    let l = a .args .p .now in
+    let n : 4 ≡ lengthOf l = length-at (sym (outcome-at (c .before .before .before))) in
+    (records-alone l 4 n (a .pre .2), λ q. read-alone _ _ q _ _ _ _ l 4 n (c .read-outcome .ensures q _ _ _))
 
--- what is left is a leak
-leak-at : (c : tie.Else2) → getD (c .before .before .before .before .args .p .now) 0 0 ≡ 3
-leak-at c = omega (arith, c .before .before .before .before .pre .0, c .before .before .before .before .pre .1, c .before .before .kind .ensures, c .before .if1 .left, c .if2 .left)
-
-read-leak-requires : tie.Need-read-leak-requires
-read-leak-requires c κs = decode-leak _ (leak-at (c .before))
-
-parts-requires-3 : tie.Need-parts-requires-3
-parts-requires-3 c κs = search needs
+read-branching-requires : tie.Need-read-branching-requires
+read-branching-requires c κs = decode-branching _ (branching-at (c .before))
 
 returns-3 : tie.Need-returns-3
 unfolding bodyLength ifEq Other
 returns-3 c =
-    let e = c .parts3 .ensures in
-    let k = leak-at (c .before .before .before) in
-    let r = c .before .read-leak in
-    let a = c .before .before .before .before .before .before .before .args in
-    let d = decode-leak (a .p .now) k in
-    (e .3 ∙ length-at (sym k), λ q s m f. parts-read (r .result) _ _ _ _ (e .0) (e .1) (e .2) (r .ensures .1) (a .kinds .now) q _ s m f (other-read (a .kinds .now) _ _ q _ s m f _ s m f _ _ d tt (r .ensures .0 q s m f)))
+    let a = c .before .before .before .before .before .before .before in
+    let l = a .args .p .now in
+    let k = branching-at (c .before .before) in
+    let n : 5 ≡ lengthOf l = length-at (sym k) in
+    (records-alone l 5 n (a .pre .2), λ q. read-alone _ _ q _ _ _ _ l 5 n (other-read (a .args .kinds .now) _ _ q _ _ _ _ _ _ _ _ _ _ (decode-branching l k) tt (c .read-branching .ensures q _ _ _)))
+
+read-leak-requires : tie.Need-read-leak-requires
+read-leak-requires c κs = decode-leak _ (leak-at (c .before))
+
+returns-4 : tie.Need-returns-4
+unfolding bodyLength ifEq Other
+returns-4 c =
+    let a = c .before .before .before .before .before .before .before in
+    let l = a .args .p .now in
+    let k = leak-at (c .before .before) in
+    let n : 13 ≡ lengthOf l = length-at (sym k) in
+    (records-alone l 13 n (a .pre .2), λ q. read-alone _ _ q _ _ _ _ l 13 n (other-read (a .args .kinds .now) _ _ q _ _ _ _ _ _ _ _ _ _ (decode-leak l k) tt (c .read-leak .ensures q _ _ _)))
 
 pub read-one-spec : {M : Type 1} → statement M
 read-one-spec =
     tie.close
     (tie.spec
     kind-requires
-    read-outcome-requires
-    parts-requires
+    read-effects-requires
     returns
-    read-branching-requires
-    parts-requires-2
+    read-outcome-requires
     returns-2
+    read-branching-requires
+    returns-3
     read-leak-requires
-    parts-requires-3
-    returns-3)
+    returns-4)

@@ -1,10 +1,10 @@
--- `study::scenarios::tree_here` meets its contract, case by case. Assumes nothing.
+-- `study::scenarios::scenario_here` meets its contract, case by case. Assumes nothing.
 use mathlib.Core.Path.{subst, sym}
 use lib.Dec.{T}
-use Rattle.study.proofs.SpanLaws.{tree-known}
+use Rattle.study.proofs.SpanLaws.{scenario-known}
 use borrow.Author.Needs.{needs}
-use Rattle.study.proofs.scenarios.tree_here.Statement.{statement}
-use Rattle.study.proofs.scenarios.tree_here.Tie as tie
+use Rattle.study.proofs.scenarios.scenario_here.Statement.{statement}
+use Rattle.study.proofs.scenarios.scenario_here.Tie as tie
 
 between-requires : tie.Need-between-requires
 between-requires c κs = search needs
@@ -17,7 +17,7 @@ returns c h =
     let b = c .before .before .before .before .before in
     let l = c .before .if3 .taken in
     let m = c .if4 .taken in
-    (record { between = b .between .ensures (c .before .before .before .before .if1 .taken); known = tree-known _ l m; room = search needs }, l, m)
+    (record { between = b .between .ensures (c .before .before .before .before .if1 .taken); known = scenario-known _ l m; room = search needs }, l, m)
 
 returns-2 : tie.Need-returns-2
 returns-2 c h = absurd (subst T (sym h) tt)
@@ -31,8 +31,8 @@ returns-4 c h = absurd (subst T (sym h) tt)
 returns-5 : tie.Need-returns-5
 returns-5 c h = absurd (subst T (sym h) tt)
 
-pub tree-here-spec : {M : Type 1} → statement M
-tree-here-spec =
+pub scenario-here-spec : {M : Type 1} → statement M
+scenario-here-spec =
     tie.close
     (tie.spec
     between-requires
