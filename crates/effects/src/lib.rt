@@ -4,7 +4,7 @@ ghost use mathlib.Core.Bool.{true, false};
 ghost use mathlib.Core.Logic.{_⊎_};
 ghost use Prim.Native.Nat.{ℕ, _+_, _-_, _*_, _/_, _<_, _≤_, min};
 ghost use lib.ListN.{length, getD, drop};
-ghost use Rattle.log2.specs.Logarithm.{Thresholds};
+ghost use Rattle.log2.specs.Logarithm.{LogTables};
 ghost use Rattle.probit.specs.Table.{RowsReached};
 ghost use Rattle.terms.specs.Terms.{fireball, flashFire};
 ghost use Rattle.numeric.specs.Choice.{ifEq};
@@ -102,6 +102,7 @@ fn as_kept(sum: u64) -> u64
 // An effect of a fire on a target that has a row, and whether no rule judged it. Where none has a rule the margin alone grows.
 fn fire_row(
     table: &[u32; 256],
+    near: &[u8; 512],
     rows: &[u32; 544],
     b: Branch,
     i: usize,
@@ -112,7 +113,7 @@ fn fire_row(
     facts: &mut [u64; 256],
 ) -> u64
     requires { ⌜ (i < 256) × (b .kind ≤ fireball) ⌝ }
-    ensures { λ r. ⌜ (Thresholds (now (table .entry)) → RowsReached (now (rows .entry)) → Added b i q d (now (sums .entry)) (now (margins .entry)) (now (facts .entry)) r (now (sums .exit)) (now (margins .exit)) (now (facts .exit))) ⌝ }
+    ensures { λ r. ⌜ (LogTables (now (table .entry)) (now (near .entry)) → RowsReached (now (rows .entry)) → Added b i q d (now (sums .entry)) (now (margins .entry)) (now (facts .entry)) r (now (sums .exit)) (now (margins .exit)) (now (facts .exit))) ⌝ }
     ensures { λ r. ⌜ r ≤ 1 ⌝ }
 {
     add_margin(b, i, margins);
@@ -123,7 +124,7 @@ fn fire_row(
         return 0;
     }
     if burns(target.class) {
-        let chance = vulnerability::fire(table, rows, target, q, d);
+        let chance = vulnerability::fire(table, near, rows, target, q, d);
         add_chance(b, i, known, chance, sums, facts);
         return 0;
     }
@@ -156,6 +157,7 @@ fn flash_row(
 // That of an explosion.
 fn blast_row(
     table: &[u32; 256],
+    near: &[u8; 512],
     rows: &[u32; 544],
     b: Branch,
     i: usize,
@@ -166,14 +168,14 @@ fn blast_row(
     facts: &mut [u64; 256],
 )
     requires { ⌜ (i < 256) × (flashFire < b .kind) ⌝ }
-    ensures { λ _. ⌜ (Thresholds (now (table .entry)) → RowsReached (now (rows .entry)) → Added b i q d (now (sums .entry)) (now (margins .entry)) (now (facts .entry)) 0 (now (sums .exit)) (now (margins .exit)) (now (facts .exit))) ⌝ }
+    ensures { λ _. ⌜ (LogTables (now (table .entry)) (now (near .entry)) → RowsReached (now (rows .entry)) → Added b i q d (now (sums .entry)) (now (margins .entry)) (now (facts .entry)) 0 (now (sums .exit)) (now (margins .exit)) (now (facts .exit))) ⌝ }
 {
     add_margin(b, i, margins);
     let known = facts[i];
     let sum = as_kept(sums[i]);
     let target = rows::unpack_facts(known);
     if b.kind == 5 {
-        let chance = vulnerability::blast(table, rows, target, q);
+        let chance = vulnerability::blast(table, near, rows, target, q);
         add_chance(b, i, known, chance, sums, facts);
     }
 }
@@ -194,6 +196,7 @@ fn past_rows(targets: u16, kind: u8, next: u32, t: u16, q: u32, d: u16) -> Step
 // The effect that the bytes begin with, if it has no fault of its own, in an outcome of each form. Of the declared targets at most 256 have a row.
 fn fire(
     table: &[u32; 256],
+    near: &[u8; 512],
     rows: &[u32; 544],
     b: Branch,
     targets: u16,
@@ -206,13 +209,13 @@ fn fire(
 ) -> Step
     requires { ⌜ (limit ≡ min targets 256) × (getD (now p) 0 0 ≡ 6) × (b .kind ≤ fireball) ⌝ }
     ensures { λ r. ⌜ (r .next ≡ nextIn targets b next (now (p .entry))) × (r .missed ≤ 1) ⌝ }
-    ensures { λ r. ⌜ (Thresholds (now (table .entry)) → RowsReached (now (rows .entry)) → Taking targets b next (now (p .entry)) (now (sums .entry)) (now (margins .entry)) (now (facts .entry)) (r .missed) (now (sums .exit)) (now (margins .exit)) (now (facts .exit))) ⌝ }
+    ensures { λ r. ⌜ (LogTables (now (table .entry)) (now (near .entry)) → RowsReached (now (rows .entry)) → Taking targets b next (now (p .entry)) (now (sums .entry)) (now (margins .entry)) (now (facts .entry)) (r .missed) (now (sums .exit)) (now (margins .exit)) (now (facts .exit))) ⌝ }
 {
     let t = decoding::half_at_1(p);
     let q = decoding::word_at_3(p);
     let d = decoding::half_at_7(p);
     if faults::effect_fault(limit, b.kind, next, t, q, d) == 0 {
-        let missed = fire_row(table, rows, b, t as usize, q, d, sums, margins, facts);
+        let missed = fire_row(table, near, rows, b, t as usize, q, d, sums, margins, facts);
         return Step {
             next: (t as u32) + 1,
             missed: missed,
@@ -250,6 +253,7 @@ fn flash(
 
 fn blast(
     table: &[u32; 256],
+    near: &[u8; 512],
     rows: &[u32; 544],
     b: Branch,
     targets: u16,
@@ -262,13 +266,13 @@ fn blast(
 ) -> Step
     requires { ⌜ (limit ≡ min targets 256) × (getD (now p) 0 0 ≡ 6) × (flashFire < b .kind) ⌝ }
     ensures { λ r. ⌜ (r .next ≡ nextIn targets b next (now (p .entry))) × (r .missed ≤ 1) ⌝ }
-    ensures { λ r. ⌜ (Thresholds (now (table .entry)) → RowsReached (now (rows .entry)) → Taking targets b next (now (p .entry)) (now (sums .entry)) (now (margins .entry)) (now (facts .entry)) (r .missed) (now (sums .exit)) (now (margins .exit)) (now (facts .exit))) ⌝ }
+    ensures { λ r. ⌜ (LogTables (now (table .entry)) (now (near .entry)) → RowsReached (now (rows .entry)) → Taking targets b next (now (p .entry)) (now (sums .entry)) (now (margins .entry)) (now (facts .entry)) (r .missed) (now (sums .exit)) (now (margins .exit)) (now (facts .exit))) ⌝ }
 {
     let t = decoding::half_at_1(p);
     let q = decoding::word_at_3(p);
     let d = decoding::half_at_7(p);
     if faults::effect_fault(limit, b.kind, next, t, q, d) == 0 {
-        blast_row(table, rows, b, t as usize, q, d, sums, margins, facts);
+        blast_row(table, near, rows, b, t as usize, q, d, sums, margins, facts);
         return Step {
             next: (t as u32) + 1,
             missed: 0,
@@ -280,6 +284,7 @@ fn blast(
 // The kind of the outcome is asked first: it is the same for all effects of a loop.
 fn take_one(
     table: &[u32; 256],
+    near: &[u8; 512],
     rows: &[u32; 544],
     b: Branch,
     targets: u16,
@@ -292,12 +297,13 @@ fn take_one(
 ) -> Step
     requires { ⌜ (limit ≡ min targets 256) ⌝ }
     ensures { λ r. ⌜ (r .next ≡ nextIn targets b next (now (p .entry))) × (r .missed ≤ 1) ⌝ }
-    ensures { λ r. ⌜ (Thresholds (now (table .entry)) → RowsReached (now (rows .entry)) → Taking targets b next (now (p .entry)) (now (sums .entry)) (now (margins .entry)) (now (facts .entry)) (r .missed) (now (sums .exit)) (now (margins .exit)) (now (facts .exit))) ⌝ }
+    ensures { λ r. ⌜ (LogTables (now (table .entry)) (now (near .entry)) → RowsReached (now (rows .entry)) → Taking targets b next (now (p .entry)) (now (sums .entry)) (now (margins .entry)) (now (facts .entry)) (r .missed) (now (sums .exit)) (now (margins .exit)) (now (facts .exit))) ⌝ }
 {
     if decoding::kind(p) == 6 {
         if b.kind <= 3 {
             return fire(
                 table,
+                near,
                 rows,
                 b,
                 targets,
@@ -314,6 +320,7 @@ fn take_one(
         }
         return blast(
             table,
+            near,
             rows,
             b,
             targets,
@@ -339,6 +346,7 @@ fn unjudged_after(before: u32, missed: u64) -> u32
 // Takes the effects that the bytes begin with, in an outcome's branch, up to the first that is unsound.
 pub fn take_effects(
     table: &[u32; 256],
+    near: &[u8; 512],
     rows: &[u32; 544],
     b: Branch,
     targets: u16,
@@ -350,8 +358,8 @@ pub fn take_effects(
     facts: &mut [u64; 256],
 ) -> Taken
     ensures { λ r. ⌜ r .count ≤ min most ((length (now (bytes .entry)) - 7) / 9) ⌝ }
-    ensures { λ r. ⌜ (Thresholds (now (table .entry)) → RowsReached (now (rows .entry)) → figures (r .next) (r .unjudged) (now (sums .exit)) (now (margins .exit)) (now (facts .exit)) ≡ afterEffects b (figures (b .next) before (now (sums .entry)) (now (margins .entry)) (now (facts .entry))) (now (bytes .entry)) (r .count)) ⌝ }
-    ensures { λ r. ⌜ (Thresholds (now (table .entry)) → RowsReached (now (rows .entry)) → (i : ℕ) → i < r .count → sound targets (b .kind) (afterEffects b (figures (b .next) before (now (sums .entry)) (now (margins .entry)) (now (facts .entry))) (now (bytes .entry)) i .next) (drop (i * 9) (now (bytes .entry))) ≡ true) ⌝ }
+    ensures { λ r. ⌜ (LogTables (now (table .entry)) (now (near .entry)) → RowsReached (now (rows .entry)) → figures (r .next) (r .unjudged) (now (sums .exit)) (now (margins .exit)) (now (facts .exit)) ≡ afterEffects b (figures (b .next) before (now (sums .entry)) (now (margins .entry)) (now (facts .entry))) (now (bytes .entry)) (r .count)) ⌝ }
+    ensures { λ r. ⌜ (LogTables (now (table .entry)) (now (near .entry)) → RowsReached (now (rows .entry)) → (i : ℕ) → i < r .count → sound targets (b .kind) (afterEffects b (figures (b .next) before (now (sums .entry)) (now (margins .entry)) (now (facts .entry))) (now (bytes .entry)) i .next) (drop (i * 9) (now (bytes .entry))) ≡ true) ⌝ }
     ensures { λ r. ⌜ (r .count < min most ((length (now (bytes .entry)) - 7) / 9) → sound targets (b .kind) (r .next) (drop (r .count * 9) (now (bytes .entry))) ≡ false) ⌝ }
 {
     let top = least(most as usize, room(bytes.len()));
@@ -364,6 +372,7 @@ pub fn take_effects(
         let p = &bytes[at..at + 16];
         let s = take_one(
             table,
+            near,
             rows,
             b,
             targets,

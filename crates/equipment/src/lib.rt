@@ -1,7 +1,7 @@
-// The chance of damage to equipment. The caller lends both tables: the logarithm's thresholds and the probit's rows.
+// The chance of damage to equipment. The caller lends the tables: the logarithm's thresholds and near steps, and the probit's rows.
 ghost use mathlib.Core.Path.{_≡_};
 ghost use Prim.Native.Nat.{_+_, _*_, _/_, _^_, _<_};
-ghost use Rattle.log2.specs.Logarithm.{logarithm, Thresholds};
+ghost use Rattle.log2.specs.Logarithm.{logarithm, LogTables};
 ghost use Rattle.probit.specs.Table.{RowsReached};
 ghost use Rattle.probit.specs.Chance.{chanceOf};
 ghost use Rattle.equipment.specs.Damage.{blastRowOf, blastProbit, blastDamage, heatProbit, heatDamage};
@@ -45,40 +45,46 @@ fn blast_row(class: u8) -> BlastRow
     }
 }
 
-// factor × L(n) × 693,147 / divisor, rounded down: the logarithm's part of a probit. It is below 2^55 with any table.
-fn scaled_log(table: &[u32; 256], factor: u64, n: u32, divisor: u64) -> u64
+// factor × L(n) × 693,147 / divisor, rounded down: the logarithm's part of a probit. It is below 2^55 with any tables.
+fn scaled_log(table: &[u32; 256], near: &[u8; 512], factor: u64, n: u32, divisor: u64) -> u64
     requires { ⌜ (factor < 2 ^ 22) × (0 < divisor) ⌝ }
-    ensures { λ r. ⌜ (Thresholds (now (table .entry)) → r ≡ factor * logarithm n * 693147 / divisor) ⌝ }
+    ensures { λ r. ⌜ (LogTables (now (table .entry)) (now (near .entry)) → r ≡ factor * logarithm n * 693147 / divisor) ⌝ }
     ensures { λ r. ⌜ r < 2 ^ 55 ⌝ }
 {
-    let log = log2::log256(table, n) as u64;
+    let log = log2::log256(table, near, n) as u64;
     factor * log * 693_147 / divisor
 }
 
 // The chance by the probit of an explosion.
-fn blast_chance(table: &[u32; 256], rows: &[u32; 544], row: BlastRow, pa: u32) -> u32
-    ensures { λ r. ⌜ (Thresholds (now (table .entry)) → RowsReached (now (rows .entry)) → r ≡ chanceOf (blastProbit row pa)) ⌝ }
+fn blast_chance(
+    table: &[u32; 256],
+    near: &[u8; 512],
+    rows: &[u32; 544],
+    row: BlastRow,
+    pa: u32,
+) -> u32
+    ensures { λ r. ⌜ (LogTables (now (table .entry)) (now (near .entry)) → RowsReached (now (rows .entry)) → r ≡ chanceOf (blastProbit row pa)) ⌝ }
 {
-    let log = scaled_log(table, row.factor as u64, pa, 25_600);
+    let log = scaled_log(table, near, row.factor as u64, pa, 25_600);
     probit::chance(rows, log, row.constant)
 }
 
 // Explosion: overpressure in Pa on equipment of a class.
-pub fn blast(table: &[u32; 256], rows: &[u32; 544], class: u8, pa: u32) -> u32
-    ensures { λ r. ⌜ (Thresholds (now (table .entry)) → RowsReached (now (rows .entry)) → r ≡ blastDamage (blastRowOf class) pa) ⌝ }
+pub fn blast(table: &[u32; 256], near: &[u8; 512], rows: &[u32; 544], class: u8, pa: u32) -> u32
+    ensures { λ r. ⌜ (LogTables (now (table .entry)) (now (near .entry)) → RowsReached (now (rows .entry)) → r ≡ blastDamage (blastRowOf class) pa) ⌝ }
 {
     let row = blast_row(class);
     if pa < row.threshold {
         return 0;
     }
-    blast_chance(table, rows, row, pa)
+    blast_chance(table, near, rows, row, pa)
 }
 
 // The chance by the probit of a fire.
-fn heat_chance(table: &[u32; 256], rows: &[u32; 544], q: u32, volume: u32) -> u32
-    ensures { λ r. ⌜ (Thresholds (now (table .entry)) → RowsReached (now (rows .entry)) → r ≡ chanceOf (heatProbit q volume)) ⌝ }
+fn heat_chance(table: &[u32; 256], near: &[u8; 512], rows: &[u32; 544], q: u32, volume: u32) -> u32
+    ensures { λ r. ⌜ (LogTables (now (table .entry)) (now (near .entry)) → RowsReached (now (rows .entry)) → r ≡ chanceOf (heatProbit q volume)) ⌝ }
 {
-    let heat = scaled_log(table, 2_083_416, q, 256_000_000);
+    let heat = scaled_log(table, near, 2_083_416, q, 256_000_000);
     let size = 4_925_949 * (volume as u64) / 100_000;
     probit::chance(rows, heat + size, 20_094_547)
 }
@@ -86,17 +92,18 @@ fn heat_chance(table: &[u32; 256], rows: &[u32; 544], q: u32, volume: u32) -> u3
 // Fire: heat in W/m² on a vessel or pipe at atmospheric pressure. The time that it has to exceed goes by the clock.
 pub fn heat(
     table: &[u32; 256],
+    near: &[u8; 512],
     rows: &[u32; 544],
     limit: u16,
     volume: u32,
     q: u32,
     duration: u16,
 ) -> u32
-    ensures { λ r. ⌜ (Thresholds (now (table .entry)) → RowsReached (now (rows .entry)) → r ≡ heatDamage limit volume q duration) ⌝ }
+    ensures { λ r. ⌜ (LogTables (now (table .entry)) (now (near .entry)) → RowsReached (now (rows .entry)) → r ≡ heatDamage limit volume q duration) ⌝ }
 {
     if 15_000 < q {
         if limit < duration {
-            return heat_chance(table, rows, q, volume);
+            return heat_chance(table, near, rows, q, volume);
         }
         return 0;
     }

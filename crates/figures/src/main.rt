@@ -24,10 +24,10 @@ fn branches(frequency: u64, chance: u32) {
 }
 
 // n; L(n).
-fn logarithm(table: &[u32; 256], n: u32) {
+fn logarithm(table: &[u32; 256], near: &[u8; 512], n: u32) {
     word(b"logarithm");
     number(n as u64);
-    number(log2::log256(table, n) as u64);
+    number(log2::log256(table, near, n) as u64);
     word(b"\n");
 }
 
@@ -41,37 +41,44 @@ fn people(kind: u8, setting: u8, intensity: u32, duration: u16) {
 }
 
 // A place of people: setting, heat, duration in a pool fire; chance of death.
-fn fires(table: &[u32; 256], rows: &[u32; 544], setting: u8, q: u32, duration: u16) {
+fn fires(
+    table: &[u32; 256],
+    near: &[u8; 512],
+    rows: &[u32; 544],
+    setting: u8,
+    q: u32,
+    duration: u16,
+) {
     let target = Target {
         class: 0,
         setting: setting,
         volume: 0,
     };
     people(1, setting, q, duration);
-    number(vulnerability::fire(table, rows, target, q, duration) as u64);
+    number(vulnerability::fire(table, near, rows, target, q, duration) as u64);
     word(b"\n");
 }
 
 // Setting and overpressure in an explosion; chance of death.
-fn deaths(table: &[u32; 256], rows: &[u32; 544], setting: u8, pa: u32) {
+fn deaths(table: &[u32; 256], near: &[u8; 512], rows: &[u32; 544], setting: u8, pa: u32) {
     let target = Target {
         class: 0,
         setting: setting,
         volume: 0,
     };
     people(5, setting, pa, 0);
-    number(vulnerability::blast(table, rows, target, pa) as u64);
+    number(vulnerability::blast(table, near, rows, target, pa) as u64);
     word(b"\n");
 }
 
 // Class and overpressure; chance of damage, and whether a leak of 10^7 units puts the equipment on the domino list.
-fn blasts(table: &[u32; 256], rows: &[u32; 544], class: u8, pa: u32) {
+fn blasts(table: &[u32; 256], near: &[u8; 512], rows: &[u32; 544], class: u8, pa: u32) {
     let target = Target {
         class: class,
         setting: 0,
         volume: 0,
     };
-    let chance = vulnerability::blast(table, rows, target, pa);
+    let chance = vulnerability::blast(table, near, rows, target, pa);
     word(b"equipment");
     number(class as u64);
     number(pa as u64);
@@ -84,22 +91,23 @@ fn blasts(table: &[u32; 256], rows: &[u32; 544], class: u8, pa: u32) {
 
 fn main() {
     let table = log2::thresholds();
+    let near = log2::near_steps();
     let rows = probit::rows();
     branches(1, 500_000);
     branches(10_000_000_000_000, 999_999);
-    logarithm(&table, 1);
-    logarithm(&table, 2);
-    logarithm(&table, 3);
-    fires(&table, &rows, 0, 12_500, 20);
-    fires(&table, &rows, 1, 12_500, 20);
-    fires(&table, &rows, 2, 12_500, 20);
-    fires(&table, &rows, 0, 34_999, 20);
-    fires(&table, &rows, 0, 35_000, 20);
-    deaths(&table, &rows, 2, 9_999);
-    deaths(&table, &rows, 2, 10_000);
-    deaths(&table, &rows, 2, 30_000);
-    blasts(&table, &rows, 1, 67_000);
-    blasts(&table, &rows, 1, 70_000);
-    blasts(&table, &rows, 2, 29_999);
-    blasts(&table, &rows, 2, 30_000);
+    logarithm(&table, &near, 1);
+    logarithm(&table, &near, 2);
+    logarithm(&table, &near, 3);
+    fires(&table, &near, &rows, 0, 12_500, 20);
+    fires(&table, &near, &rows, 1, 12_500, 20);
+    fires(&table, &near, &rows, 2, 12_500, 20);
+    fires(&table, &near, &rows, 0, 34_999, 20);
+    fires(&table, &near, &rows, 0, 35_000, 20);
+    deaths(&table, &near, &rows, 2, 9_999);
+    deaths(&table, &near, &rows, 2, 10_000);
+    deaths(&table, &near, &rows, 2, 30_000);
+    blasts(&table, &near, &rows, 1, 67_000);
+    blasts(&table, &near, &rows, 1, 70_000);
+    blasts(&table, &near, &rows, 2, 29_999);
+    blasts(&table, &near, &rows, 2, 30_000);
 }

@@ -95,6 +95,11 @@ pub logarithm-of-zero : LogarithmOfZero
 unfolding logarithm greatest
 logarithm-of-zero = refl
 
+-- so is that of one
+pub logarithm-small : (n : ℕ) → n < 2 → logarithm n ≡ 0
+logarithm-small zero h = logarithm-of-zero
+logarithm-small (suc n) h = let e : suc n ≡ 1 = omega arith in rw e (log-is 1 0 (omega arith) (omega arith) (omega arith))
+
 mul-pow : (a b k : ℕ) → (a * b) ^ k ≡ a ^ k * b ^ k
 mul-pow a b zero = simp (pow-zero, mul-one)
 mul-pow a b (suc k) =
@@ -136,3 +141,15 @@ scaled-by n k z lo hi e =
 
 pub scaled : (n : ℕ) → 0 < n → n < 2 ^ 32 → Scaled n (leadingZeros 32 n)
 scaled n p h = let t = leading-top 32 n p h in scaled-by n (t .0) (leadingZeros 32 n) (t .2) (t .3) (t .1)
+
+-- a number from two on needs thirty at the most
+pub scaled-few : (n z : ℕ) → 2 ≤ n → Scaled n z → z ≤ 30
+scaled-few n z h s = go (decLe z 30)
+  where
+    go : Dec (z ≤ 30) → z ≤ 30
+    go (yes d) = d
+    go (no d) =
+        let e : z ≡ 31 = omega (arith, s .few) in
+        let f : n * 2 ^ 31 % 2 ^ 32 ≡ n * 2 ^ 31 = rw e at (s .fits) in
+        let x : ⊥ = omega arith in
+        absurd x

@@ -38,8 +38,18 @@ pub record StepOf (m k : ℕ) : Type 0 where
   pub low : 2 ^ (31 * 256 + k) ≤ m ^ 256
   pub high : m ^ 256 < 2 ^ (31 * 256 + k + 1)
 
--- every mantissa from 2^31 on whose nine bits below the highest are b lies at step g of its octave or at the next
+-- every mantissa from 2^31 on whose nine bits below the highest are b lies at step g of its octave or at the one before
 pub record NearStep (b g : ℕ) : Type 0 where
-  pub within : g ≤ 254
-  pub low : 2 ^ (31 * 256 + g) ≤ (2 ^ 31 + b * 2 ^ 22) ^ 256
-  pub high : (2 ^ 31 + b * 2 ^ 22 + (2 ^ 22 - 1)) ^ 256 < 2 ^ (31 * 256 + g + 2)
+  pub first : 0 < g
+  pub within : g < 256
+  pub low : 2 ^ (31 * 256 + (g - 1)) ≤ (2 ^ 31 + b * 2 ^ 22) ^ 256
+  pub high : (2 ^ 31 + b * 2 ^ 22 + (2 ^ 22 - 1)) ^ 256 < 2 ^ (31 * 256 + g + 1)
+
+-- a table with a near step for each nine bits
+unfoldable pub NearSteps : List ℕ → Type 0
+NearSteps l = (b : ℕ) → b < 512 → NearStep b (getD l b 0)
+
+-- the two tables behind L: the thresholds, and where to look among them
+pub record LogTables (t n : List ℕ) : Type 0 where
+  pub thresholds : Thresholds t
+  pub near : NearSteps n

@@ -1,17 +1,17 @@
-// The chance of death at a place of people. The caller lends both tables: the logarithm's thresholds and the probit's rows.
+// The chance of death at a place of people. The caller lends the tables: the logarithm's thresholds and near steps, and the probit's rows.
 ghost use mathlib.Core.Path.{_≡_};
 ghost use Prim.Native.Nat.{_+_, _*_, _/_, min};
-ghost use Rattle.log2.specs.Logarithm.{logarithm, Thresholds};
+ghost use Rattle.log2.specs.Logarithm.{logarithm, LogTables};
 ghost use Rattle.probit.specs.Table.{RowsReached};
 ghost use Rattle.probit.specs.Chance.{chanceOf};
 ghost use Rattle.people.specs.Death.{fireProbit, settingShare, fireDeath, flashDeath, blastDeath};
 
 // (4 L(Q) + 3 L(t)) × 693,147 / 300, rounded down.
-fn dose(table: &[u32; 256], q: u32, t: u32) -> u64
-    ensures { λ r. ⌜ (Thresholds (now (table .entry)) → r ≡ (4 * logarithm q + 3 * logarithm t) * 693147 / 300) ⌝ }
+fn dose(table: &[u32; 256], near: &[u8; 512], q: u32, t: u32) -> u64
+    ensures { λ r. ⌜ (LogTables (now (table .entry)) (now (near .entry)) → r ≡ (4 * logarithm q + 3 * logarithm t) * 693147 / 300) ⌝ }
 {
-    let heat = log2::log256(table, q) as u64;
-    let time = log2::log256(table, t) as u64;
+    let heat = log2::log256(table, near, q) as u64;
+    let time = log2::log256(table, near, t) as u64;
     (4 * heat + 3 * time) * 693_147 / 300
 }
 
@@ -32,15 +32,23 @@ fn least(x: u16, y: u16) -> u32
 }
 
 // The chance by the probit of a fire.
-fn by_probit(table: &[u32; 256], rows: &[u32; 544], constant: u32, q: u32, t: u32) -> u32
-    ensures { λ r. ⌜ (Thresholds (now (table .entry)) → RowsReached (now (rows .entry)) → r ≡ chanceOf (fireProbit constant q t)) ⌝ }
+fn by_probit(
+    table: &[u32; 256],
+    near: &[u8; 512],
+    rows: &[u32; 544],
+    constant: u32,
+    q: u32,
+    t: u32,
+) -> u32
+    ensures { λ r. ⌜ (LogTables (now (table .entry)) (now (near .entry)) → RowsReached (now (rows .entry)) → r ≡ chanceOf (fireProbit constant q t)) ⌝ }
 {
-    probit::chance(rows, dose(table, q, t), constant)
+    probit::chance(rows, dose(table, near, q, t), constant)
 }
 
 // Fire: heat in W/m² for a duration. The longest time that counts and the probit's constant go by the clock.
 pub fn fire(
     table: &[u32; 256],
+    near: &[u8; 512],
     rows: &[u32; 544],
     longest: u16,
     constant: u32,
@@ -48,7 +56,7 @@ pub fn fire(
     q: u32,
     duration: u16,
 ) -> u32
-    ensures { λ r. ⌜ (Thresholds (now (table .entry)) → RowsReached (now (rows .entry)) → r ≡ fireDeath longest constant setting q duration) ⌝ }
+    ensures { λ r. ⌜ (LogTables (now (table .entry)) (now (near .entry)) → RowsReached (now (rows .entry)) → r ≡ fireDeath longest constant setting q duration) ⌝ }
 {
     if 35_000 <= q {
         return 1_000_000;
@@ -60,7 +68,7 @@ pub fn fire(
         return 0;
     }
     let t = least(duration, longest);
-    let chance = by_probit(table, rows, constant, q, t);
+    let chance = by_probit(table, near, rows, constant, q, t);
     in_setting(setting, chance)
 }
 

@@ -3,7 +3,7 @@ ghost use mathlib.Core.Path.{_≡_};
 ghost use mathlib.Core.List.{List};
 ghost use Prim.Native.Nat.{ℕ, _+_, _-_, _*_, _<_, _≤_};
 ghost use lib.ListN.{length, getD, replicate};
-ghost use Rattle.log2.specs.Logarithm.{Thresholds};
+ghost use Rattle.log2.specs.Logarithm.{LogTables};
 ghost use Rattle.probit.specs.Table.{RowsReached};
 ghost use Rattle.model.specs.Bounds.{mostRecords};
 ghost use Rattle.model.specs.Machine.{most64, state};
@@ -114,6 +114,7 @@ fn core_after(c: Core, count: u32, next: u32, unjudged: u32) -> Core
 // The effect that the bytes begin with, which has been entered, and the effects that follow it. The totals of the kinds stay, whatever they are.
 pub(crate) fn read_effects(
     table: &[u32; 256],
+    near: &[u8; 512],
     rows: &[u32; 544],
     c: Core,
     bytes: &[u8],
@@ -121,7 +122,7 @@ pub(crate) fn read_effects(
     margins: &mut [u32; 256],
     facts: &mut [u64; 256],
 ) -> Run
-    requires { ⌜ Thresholds (now table) × RowsReached (now rows) × (16 ≤ length (now bytes)) × (getD (now bytes) 0 0 ≡ 6) ⌝ }
+    requires { ⌜ LogTables (now table) (now near) × RowsReached (now rows) × (16 ≤ length (now bytes)) × (getD (now bytes) 0 0 ≡ 6) ⌝ }
     ensures { λ r. ⌜ Records (now (bytes .entry)) (r .at) ⌝ }
     ensures { λ r. ⌜ ((l q k : List ℕ) → state (withKinds (r .core) l) (replicate 16 0) k (now (sums .exit)) (now (margins .exit)) (now (facts .exit)) ≡ afterFirst (state (withKinds c l) q k (now (sums .entry)) (now (margins .entry)) (now (facts .entry))) (now (bytes .entry)) (r .at)) ⌝ }
 {
@@ -138,6 +139,7 @@ pub(crate) fn read_effects(
     let most = most_effects(c);
     let run = effects::take_effects(
         table,
+        near,
         rows,
         b,
         k.targets,

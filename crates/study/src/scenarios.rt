@@ -4,7 +4,7 @@ ghost use mathlib.Core.Bool.{true};
 ghost use mathlib.Core.List.{List};
 ghost use Prim.Native.Nat.{ℕ, _+_, _≤_};
 ghost use lib.ListN.{length, getD, replicate};
-ghost use Rattle.log2.specs.Logarithm.{Thresholds};
+ghost use Rattle.log2.specs.Logarithm.{LogTables};
 ghost use Rattle.probit.specs.Table.{RowsReached};
 ghost use Rattle.model.specs.Machine.{reading, state};
 ghost use Rattle.counting.specs.Kinds.{withKinds};
@@ -68,6 +68,7 @@ fn scenario_here(h: Reading, bytes: &[u8]) -> bool
 // kinds; those in the core are old.
 fn read_one(
     table: &[u32; 256],
+    near: &[u8; 512],
     rows: &[u32; 544],
     c: Core,
     p: &[u8],
@@ -77,13 +78,13 @@ fn read_one(
     facts: &mut [u64; 256],
     kinds: &mut [u64; 6],
 ) -> Run
-    requires { ⌜ Thresholds (now table) × RowsReached (now rows) × (16 ≤ length (now p)) × (3 ≤ getD (now p) 0 0) × (getD (now p) 0 0 ≤ 6) ⌝ }
+    requires { ⌜ LogTables (now table) (now near) × RowsReached (now rows) × (16 ≤ length (now p)) × (3 ≤ getD (now p) 0 0) × (getD (now p) 0 0 ≤ 6) ⌝ }
     ensures { λ r. ⌜ Records (now (p .entry)) (r .at) ⌝ }
     ensures { λ r. ⌜ ((q : List ℕ) → state (withKinds (r .core) (now (kinds .exit))) (replicate 16 0) (now (stack .exit)) (now (sums .exit)) (now (margins .exit)) (now (facts .exit)) ≡ afterFirst (state (withKinds c (now (kinds .entry))) q (now (stack .entry)) (now (sums .entry)) (now (margins .entry)) (now (facts .entry))) (now (p .entry)) (r .at)) ⌝ }
 {
     let kind = decoding::kind(p);
     if kind == 6 {
-        return read_effects(table, rows, c, p, sums, margins, facts);
+        return read_effects(table, near, rows, c, p, sums, margins, facts);
     }
     if kind == 5 {
         let r = read_outcome(c, p, stack, kinds);
@@ -101,6 +102,7 @@ fn read_one(
 // each by itself in the loop.
 pub(crate) fn read_scenarios(
     table: &[u32; 256],
+    near: &[u8; 512],
     rows: &[u32; 544],
     c: Core,
     bytes: &[u8],
@@ -110,7 +112,7 @@ pub(crate) fn read_scenarios(
     facts: &mut [u64; 256],
     kinds: &mut [u64; 6],
 ) -> Run
-    requires { ⌜ Thresholds (now table) × RowsReached (now rows) × (16 ≤ length (now bytes)) × (3 ≤ getD (now bytes) 0 0) × (getD (now bytes) 0 0 ≤ 6) ⌝ }
+    requires { ⌜ LogTables (now table) (now near) × RowsReached (now rows) × (16 ≤ length (now bytes)) × (3 ≤ getD (now bytes) 0 0) × (getD (now bytes) 0 0 ≤ 6) ⌝ }
     ensures { λ r. ⌜ Records (now (bytes .entry)) (r .at) ⌝ }
     ensures { λ r. ⌜ ((q : List ℕ) → state (withKinds (r .core) (now (kinds .exit))) (replicate 16 0) (now (stack .exit)) (now (sums .exit)) (now (margins .exit)) (now (facts .exit)) ≡ afterFirst (state (withKinds c (now (kinds .entry))) q (now (stack .entry)) (now (sums .entry)) (now (margins .entry)) (now (facts .entry))) (now (bytes .entry)) (r .at)) ⌝ }
 {
@@ -128,6 +130,7 @@ pub(crate) fn read_scenarios(
         };
         let run = read_one(
             table,
+            near,
             rows,
             d,
             &bytes[at..],

@@ -4,7 +4,7 @@ ghost use mathlib.Core.Bool.{true, false};
 ghost use mathlib.Core.List.{List};
 ghost use Prim.Native.Nat.{ℕ, _+_, _-_, _<_, _≤_};
 ghost use lib.ListN.{length, getD, take, drop, replicate};
-ghost use Rattle.log2.specs.Logarithm.{Thresholds};
+ghost use Rattle.log2.specs.Logarithm.{LogTables};
 ghost use Rattle.probit.specs.Table.{RowsReached};
 ghost use Rattle.numeric.specs.Choice.{pick};
 ghost use Rattle.model.specs.Verdict.{decode};
@@ -46,6 +46,7 @@ fn entered(c: Core, bytes: &[u8]) -> Core
 // The record that the bytes begin with, which has been entered; after a record of a scenario also those of scenarios that follow it.
 fn read_some(
     table: &[u32; 256],
+    near: &[u8; 512],
     rows: &[u32; 544],
     c: Core,
     bytes: &[u8],
@@ -55,7 +56,7 @@ fn read_some(
     facts: &mut [u64; 256],
     kinds: &mut [u64; 6],
 ) -> Run
-    requires { ⌜ Thresholds (now table) × RowsReached (now rows) × (16 ≤ length (now bytes)) ⌝ }
+    requires { ⌜ LogTables (now table) (now near) × RowsReached (now rows) × (16 ≤ length (now bytes)) ⌝ }
     ensures { λ r. ⌜ Records (now (bytes .entry)) (r .at) ⌝ }
     ensures { λ r. ⌜ ((q : List ℕ) → state (withKinds (r .core) (now (kinds .exit))) (replicate 16 0) (now (stack .exit)) (now (sums .exit)) (now (margins .exit)) (now (facts .exit)) ≡ afterFirst (state (withKinds c (now (kinds .entry))) q (now (stack .entry)) (now (sums .entry)) (now (margins .entry)) (now (facts .entry))) (now (bytes .entry)) (r .at)) ⌝ }
 {
@@ -64,6 +65,7 @@ fn read_some(
         if kind <= 6 {
             return read_scenarios(
                 table,
+                near,
                 rows,
                 c,
                 bytes,
@@ -81,6 +83,7 @@ fn read_some(
 // The record that the bytes begin with, which has been entered, and the whole records that follow it.
 fn read_records(
     table: &[u32; 256],
+    near: &[u8; 512],
     rows: &[u32; 544],
     c: Core,
     bytes: &[u8],
@@ -90,7 +93,7 @@ fn read_records(
     facts: &mut [u64; 256],
     kinds: &mut [u64; 6],
 ) -> Run
-    requires { ⌜ Thresholds (now table) × RowsReached (now rows) × (16 ≤ length (now bytes)) ⌝ }
+    requires { ⌜ LogTables (now table) (now near) × RowsReached (now rows) × (16 ≤ length (now bytes)) ⌝ }
     ensures { λ r. ⌜ Records (now (bytes .entry)) (r .at) ⌝ }
     ensures { λ r. ⌜ ((q : List ℕ) → state (withKinds (r .core) (now (kinds .exit))) (replicate 16 0) (now (stack .exit)) (now (sums .exit)) (now (margins .exit)) (now (facts .exit)) ≡ afterFirst (state (withKinds c (now (kinds .entry))) q (now (stack .entry)) (now (sums .entry)) (now (margins .entry)) (now (facts .entry))) (now (bytes .entry)) (r .at)) ⌝ }
 {
@@ -99,6 +102,7 @@ fn read_records(
     while 16 <= bytes.len() - at {
         let run = read_some(
             table,
+            near,
             rows,
             core,
             &bytes[at..],
@@ -187,9 +191,10 @@ pub(crate) fn read_on(
     let d = e.core;
     if e.whole {
         let table = log2::thresholds();
+        let near = log2::near_steps();
         let rows = probit::rows();
         let here = source(direct, &bytes[from..], p);
-        let run = read_records(&table, &rows, d, here, stack, sums, margins, facts, kinds);
+        let run = read_records(&table, &near, &rows, d, here, stack, sums, margins, facts, kinds);
         clear(p);
         let after = run.core;
         let end = from + taken_from(direct, run.at);

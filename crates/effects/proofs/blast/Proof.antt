@@ -35,11 +35,11 @@ blast-row-requires c κs =
     let s = e .before .before .before .before .before in
     (row-of (s .args .b) (s .args .next) (read-at e) (sym (e .effect-fault .ensures) ∙ z .if1 .taken), s .pre .2)
 
-cast-t21 : tie.Need-cast-t21
-cast-t21 c = search needs
+cast-t22 : tie.Need-cast-t22
+cast-t22 c = search needs
 
-add-t22 : tie.Need-add-t22
-add-t22 c = search needs
+add-t23 : tie.Need-add-t23
+add-t23 c = search needs
 
 returns : tie.Need-returns
 returns c =
@@ -70,8 +70,8 @@ blast-spec =
     effect-fault-requires
     cast-blast-row
     blast-row-requires
-    cast-t21
-    add-t22
+    cast-t22
+    add-t23
     returns
     past-rows-requires
     returns-2)

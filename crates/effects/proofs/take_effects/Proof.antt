@@ -4,7 +4,7 @@ use mathlib.Core.Bool.{true}
 use Prim.Native.Nat.{ℕ, _-_, _*_, _<_, _≤_}
 use native.Mathlib.Omega.{arith}
 use lib.ListN.{drop}
-use Rattle.log2.specs.Logarithm.{Thresholds}
+use Rattle.log2.specs.Logarithm.{LogTables}
 use Rattle.probit.specs.Table.{RowsReached}
 use Rattle.model.specs.Machine.{upTo, most32}
 use Rattle.effects.specs.Effects.{Figures, figures, afterEffects, sound}
@@ -14,13 +14,13 @@ use Rattle.effects.proofs.take_effects.Statement.{statement}
 use Rattle.effects.proofs.take_effects.Tie as tie
 
 abbrev Inv-loop : tie.InvT-loop
-Inv-loop table rows b targets most before bytes sums₀ margins₀ facts₀ top limit count₀ next₀ missed₀ sums margins facts count next missed =
+Inv-loop table near rows b targets most before bytes sums₀ margins₀ facts₀ top limit count₀ next₀ missed₀ sums margins facts count next missed =
     (count ≤ top) × (missed ≤ count)
-    × (Thresholds table → RowsReached rows → figures next (upTo most32 before missed) sums margins facts ≡ afterEffects b (figures (b .next) before sums₀ margins₀ facts₀) bytes count)
-    × (Thresholds table → RowsReached rows → (i : ℕ) → i < count → sound targets (b .kind) (afterEffects b (figures (b .next) before sums₀ margins₀ facts₀) bytes i .next) (drop (i * 9) bytes) ≡ true)
+    × (LogTables table near → RowsReached rows → figures next (upTo most32 before missed) sums margins facts ≡ afterEffects b (figures (b .next) before sums₀ margins₀ facts₀) bytes count)
+    × (LogTables table near → RowsReached rows → (i : ℕ) → i < count → sound targets (b .kind) (afterEffects b (figures (b .next) before sums₀ margins₀ facts₀) bytes i .next) (drop (i * 9) bytes) ≡ true)
 
 abbrev μ-loop : tie.MeasureT-loop
-μ-loop table rows b targets most before bytes sums₀ margins₀ facts₀ top limit count₀ next₀ missed₀ sums margins facts count next missed = top - count
+μ-loop table near rows b targets most before bytes sums₀ margins₀ facts₀ top limit count₀ next₀ missed₀ sums margins facts count next missed = top - count
 
 room-requires : tie.Need-room-requires Inv-loop μ-loop
 room-requires c κs = search needs

@@ -1,4 +1,4 @@
--- `equipment::scaled_log` meets its contract: with any table log256 is at most 8191, so no product wraps. Assumes nothing.
+-- `equipment::scaled_log` meets its contract: with any tables log256 is at most 8191, so no product wraps. Assumes nothing.
 use Prim.Native.Nat.{_*_, _^_, _≤_}
 use native.Mathlib.Nat.{mul-le-mul, le-of-lt, div-le-self}
 use native.Mathlib.Omega.{arith}

@@ -89,8 +89,8 @@ core-after-requires c κs =
     let some = c .before .if2 .left in
     (omega (arith, some), λ w. let b = m .most-effects .ensures .1 (omega (arith, w, t .take-effects .ensures .0)) in omega (arith, b .2, t .take-effects .ensures .0))
 
-mul-t23 : tie.Need-mul-t23
-mul-t23 c = search needs
+mul-t24 : tie.Need-mul-t24
+mul-t24 c = search needs
 
 returns-3 : tie.Need-returns-3
 unfolding placeFault
@@ -133,5 +133,5 @@ read-effects-spec =
     returns-2
     cast-core-after
     core-after-requires
-    mul-t23
+    mul-t24
     returns-3)

@@ -12,11 +12,11 @@ use Rattle.study.proofs.whole.read_records.Statement.{statement}
 use Rattle.study.proofs.whole.read_records.Tie as tie
 
 abbrev Inv-loop : tie.InvT-loop
-Inv-loop table rows bytes stack₀ sums₀ margins₀ facts₀ kinds₀ core₀ at₀ stack sums margins facts kinds core at =
+Inv-loop table near rows bytes stack₀ sums₀ margins₀ facts₀ kinds₀ core₀ at₀ stack sums margins facts kinds core at =
     Standing bytes at × ((q : List ℕ) → Reached (state (withKinds core₀ kinds₀) q stack₀ sums₀ margins₀ facts₀) (state (withKinds core kinds) q stack sums margins facts) bytes at)
 
 abbrev μ-loop : tie.MeasureT-loop
-μ-loop table rows bytes stack₀ sums₀ margins₀ facts₀ kinds₀ core₀ at₀ stack sums margins facts kinds core at = length bytes - at
+μ-loop table near rows bytes stack₀ sums₀ margins₀ facts₀ kinds₀ core₀ at₀ stack sums margins facts kinds core at = length bytes - at
 
 -- what a turn reads
 some-at : (c : tie.After-read-some Inv-loop μ-loop) → Records (drop (c .before .before .before .before .before .before .before .before .loop .at) (c .before .before .before .before .before .before .before .before .before .before .args .bytes .now)) (c .read-some .result .at)
