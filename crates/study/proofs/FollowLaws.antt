@@ -3,11 +3,12 @@ use mathlib.Core.Path.{_≡_, refl, sym, _∙_, subst}
 use mathlib.Core.Bool.{Bool, true, false}
 use mathlib.Core.List.{List}
 use Prim.Native.Nat.{ℕ, zero, suc, _+_, _-_, _*_, _<_, _≤_}
+use native.Mathlib.Decide.{decLe}
 use native.Mathlib.Omega.{arith}
 use lib.ListN.{length, getD, drop, replicate, length-drop}
 use lib.Dec.{T}
 use Rattle.numeric.specs.Choice.{pick, ifEq}
-use Rattle.numeric.proofs.ChoiceLaws.{eq-case, ne-case, lt-case, gt-case, eq-first}
+use Rattle.numeric.proofs.ChoiceLaws.{eq-case, ne-case, lt-case, gt-case, eq-first, eq-second, le-second, lt-first, eq-elim, lt-elim}
 use Rattle.state.specs.declared.Core.{Core}
 use Rattle.model.specs.Bounds.{mostRecords}
 use Rattle.model.specs.Content.{inSeconds}
@@ -31,6 +32,31 @@ place-zero : (c : Core) → (c .counts .records ≡ 0 → ⊥) → 0 < c .branch
 unfolding placeFault orderFault ifEq
 place-zero c r l m =
     eq-case _ _ _ _ (sym (ne-case _ _ _ _ r (lt-case _ _ _ _ l refl))) (gt-case _ _ _ _ m refl)
+
+-- what its place says
+placed-order : (records left trees scenarios : ℕ) → orderFault records left trees scenarios 6 ≡ 0 → 0 < left
+unfolding orderFault
+placed-order records left trees scenarios e =
+    let b = eq-second _ _ _ _ _ e (λ z. eq-elim z (λ h q. omega (arith, h)) (λ h q. omega (arith, q))) in
+    lt-first _ _ _ _ _ (b .1)
+    (λ z.
+    lt-elim z (λ w y. eq-elim y (λ h q. omega (arith, h)) (λ g x. eq-elim x (λ h q. omega (arith, h)) (λ h q. omega (arith, q))))
+    (λ w y. eq-elim y (λ h q. omega (arith, h)) (λ g x. eq-elim x (λ h q. omega (arith, h)) (λ k v. eq-elim v (λ h q. omega (arith, h)) (λ h q. omega (arith, q))))))
+    .0
+
+placed-effect : (c : Core) → 0 ≡ placeFault c 6 → (0 < c .branch .left) × (c .counts .records < mostRecords)
+unfolding placeFault
+placed-effect c e =
+    let a = eq-first _ _ _ _ _ (sym e) (λ z. omega (arith, z)) in
+    (placed-order _ _ _ _ (a .0), le-second _ _ _ _ _ (a .1) (λ z. omega (arith, z)) .0)
+
+-- one effect in its place, or as many as are bounded, are within the effects to come and the records that are allowed
+pub within-bounds : (c : Core) (n : ℕ) → 0 ≡ placeFault c 6 → (1 < n → (n ≤ c .branch .left) × (c .counts .records + n ≤ mostRecords)) → (n ≤ c .branch .left) × (c .counts .records + n ≤ mostRecords)
+within-bounds c n e h = go (decLe 2 n)
+  where
+    go : Dec (2 ≤ n) → (n ≤ c .branch .left) × (c .counts .records + n ≤ mostRecords)
+    go (yes d) = h (omega arith)
+    go (no d) = let p = placed-effect c e in (omega (arith, p .0), omega (arith, p .1))
 
 -- a sound effect: its kind byte, and no fault of its own
 no-false : false ≡ true → ⊥

@@ -44,13 +44,10 @@ fn most_effects(c: Core) -> u32
 
 // Effects still to come after some.
 fn still_left(left: u16, count: u32) -> u16
+    requires { ⌜ count ≤ left ⌝ }
     ensures { λ r. ⌜ r ≡ left - count ⌝ }
 {
-    let wide = left as u32;
-    if count <= wide {
-        return (wide - count) as u16;
-    }
-    0
+    ((left as u32) - count) as u16
 }
 
 fn reading_after(h: Reading, count: u32) -> Reading
@@ -72,13 +69,14 @@ fn reading_after(h: Reading, count: u32) -> Reading
 // All but the arrays after some effects.
 fn core_after(c: Core, count: u32, next: u32, unjudged: u32) -> Core
     requires { ⌜ (0 < count) × (1 < count → c .reading .place + count * 9 ≤ most64) ⌝ }
+    requires { ⌜ (count ≤ c .branch .left) × (c .counts .records + count ≤ mostRecords) ⌝ }
     ensures { λ r. ⌜ r ≡ coreAfter c count next unjudged ⌝ }
 {
     let k = c.counts;
     let b = c.branch;
     let y = c.tally;
     let h = reading_after(c.reading, count);
-    let records = numeric::add32(k.records, count);
+    let records = k.records + count;
     let left = still_left(b.left, count);
     Core {
         reading: h,

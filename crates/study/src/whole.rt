@@ -194,7 +194,18 @@ pub(crate) fn read_on(
         let near = log2::near_steps();
         let rows = probit::rows();
         let here = source(direct, &bytes[from..], p);
-        let run = read_records(&table, &near, &rows, d, here, stack, sums, margins, facts, kinds);
+        let run = read_records(
+            &table,
+            &near,
+            &rows,
+            d,
+            here,
+            stack,
+            sums,
+            margins,
+            facts,
+            kinds,
+        );
         clear(p);
         let after = run.core;
         let end = from + taken_from(direct, run.at);

@@ -1,7 +1,7 @@
 -- `study::following::read_effects` meets its contract: the first effect is refused, or it is taken with those that follow it. Assumes nothing.
 use mathlib.Core.Path.{_≡_, refl, sym, _∙_, ap}
 use mathlib.Core.List.{List, []}
-use Prim.Native.Nat.{ℕ, _+_, _-_}
+use Prim.Native.Nat.{ℕ, _+_, _-_, _<_}
 use native.Mathlib.Omega.{arith}
 use lib.ListN.{replicate}
 use Rattle.model.specs.Content.{inSeconds}
@@ -18,7 +18,7 @@ use Rattle.study.specs.Spans.{lengthOf}
 use Rattle.study.proofs.RecordLaws.{place-refused, own-refused}
 use Rattle.study.proofs.SpanLaws.{effect-length, read-alone, records-alone}
 use Rattle.study.proofs.KindTotalLaws.{Other, other-read}
-use Rattle.study.proofs.FollowLaws.{Free, begin, effects-read, unsound-fault, with-kinds}
+use Rattle.study.proofs.FollowLaws.{within-bounds, Free, begin, effects-read, unsound-fault, with-kinds}
 use borrow.Author.Needs.{needs}
 use Rattle.study.proofs.following.read_effects.Statement.{statement}
 use Rattle.study.proofs.following.read_effects.Tie as tie
@@ -86,8 +86,12 @@ core-after-requires : tie.Need-core-after-requires
 core-after-requires c κs =
     let t = c .before .before .before in
     let m = t .before .before .before .before in
+    let i = m .before .before .before .before in
     let some = c .before .if2 .left in
-    (omega (arith, some), λ w. let b = m .most-effects .ensures .1 (omega (arith, w, t .take-effects .ensures .0)) in omega (arith, b .2, t .take-effects .ensures .0))
+    let bound : (1 < t .take-effects .result .count → _) = λ w. m .most-effects .ensures .1 (omega (arith, w, t .take-effects .ensures .0)) in (
+      (omega (arith, some), λ w. omega (arith, bound w .2, t .take-effects .ensures .0)),
+      within-bounds _ _ (sym (i .if1 .left) ∙ i .before .place-fault .ensures) (λ w. (omega (arith, bound w .0, t .take-effects .ensures .0), omega (arith, bound w .1, t .take-effects .ensures .0))),
+    )
 
 mul-t24 : tie.Need-mul-t24
 mul-t24 c = search needs
