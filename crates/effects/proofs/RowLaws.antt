@@ -20,7 +20,7 @@ use Rattle.effects.specs.Judging.{effectAt}
 use Rattle.effects.specs.Steps.{Added}
 use Rattle.effects.proofs.ZeroLaws.{zero-sum, zero-facts}
 
-store-same : (n : ℕ) (l : List ℕ) (i v : ℕ) → v ≡ getD l i 0 → l ≡ store n l i v
+pub store-same : (n : ℕ) (l : List ℕ) (i v : ℕ) → v ≡ getD l i 0 → l ≡ store n l i v
 unfolding store
 store-same n l i v e = rw e (lt-both (λ (x : List ℕ). l ≡ x) i n _ l (sym (set-getD l i 0)) refl)
 

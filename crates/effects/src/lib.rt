@@ -75,6 +75,16 @@ fn add_margin(b: Branch, i: usize, margins: &mut [u32; 256])
     margins[i] = rows::margin_after(margins[i], b.above);
 }
 
+// The facts of a target are written where they change alone.
+fn put_facts(i: usize, known: u64, after: u64, facts: &mut [u64; 256])
+    requires { ⌜ (i < 256) × (known ≡ getD (now facts) i 0) ⌝ }
+    ensures { λ _. ⌜ now (facts .exit) ≡ store 256 (now (facts .entry)) i after ⌝ }
+{
+    if after != known {
+        facts[i] = after;
+    }
+}
+
 // The sum and the mark of a target with these facts, after an effect of a chance.
 fn add_chance(
     b: Branch,
@@ -84,12 +94,12 @@ fn add_chance(
     sums: &mut [u64; 256],
     facts: &mut [u64; 256],
 )
-    requires { ⌜ i < 256 ⌝ }
+    requires { ⌜ (i < 256) × (known ≡ getD (now facts) i 0) ⌝ }
     ensures { λ _. ⌜ now (sums .exit) ≡ store 256 (now (sums .entry)) i (upTo most64 (getD (now (sums .entry)) i 0) (shareOf (b .frequency) chance)) ⌝ }
     ensures { λ _. ⌜ now (facts .exit) ≡ store 256 (now (facts .entry)) i (markedFacts known chance (b .leak)) ⌝ }
 {
     sums[i] = rows::sum_after(sums[i], b.frequency, chance);
-    facts[i] = rows::mark(known, chance, b.leak);
+    put_facts(i, known, rows::mark(known, chance, b.leak), facts);
 }
 
 // A sum that is kept is within its width.

@@ -25,10 +25,13 @@ pub fn unpack_facts(x: u64) -> Target
     }
 }
 
-// Equipment is marked by an effect that lists it.
+// Equipment is marked by an effect that lists it. A mark stays, and most effects find one.
 pub fn mark(x: u64, chance: u32, leak: u64) -> u64
     ensures { λ r. ⌜ r ≡ markedFacts x chance leak ⌝ }
 {
+    if x % 2 == 1 {
+        return x;
+    }
     if x / 8 % 8 == 0 {
         return x;
     }

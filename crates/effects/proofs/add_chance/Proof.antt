@@ -24,15 +24,12 @@ element-write-sums c = search needs
 mark-requires : tie.Need-mark-requires
 mark-requires c κs = search needs
 
-mul-facts : tie.Need-mul-facts
-mul-facts c = search needs
-
-element-write-facts : tie.Need-element-write-facts
-element-write-facts c = search needs
+put-facts-requires : tie.Need-put-facts-requires
+put-facts-requires c κs = search needs
 
 returns : tie.Need-returns
 unfolding store
-returns c = (lt-case _ _ _ _ (search needs) (rw (c .before .sum-after .ensures) refl), lt-case _ _ _ _ (search needs) (rw (c .mark .ensures) refl))
+returns c = (lt-case _ _ _ _ (search needs) (rw (c .before .before .before .sum-after .ensures) refl), rw (← c .before .before .mark .ensures) (c .put-facts .ensures))
 
 pub add-chance-spec : {M : Type 1} → statement M
 add-chance-spec =
@@ -44,6 +41,5 @@ add-chance-spec =
     mul-sums
     element-write-sums
     mark-requires
-    mul-facts
-    element-write-facts
+    put-facts-requires
     returns)
