@@ -29,7 +29,7 @@ put-facts-requires c κs = search needs
 
 returns : tie.Need-returns
 unfolding store
-returns c = (lt-case _ _ _ _ (search needs) (rw (c .before .before .before .sum-after .ensures) refl), rw (← c .before .before .mark .ensures) (c .put-facts .ensures))
+returns c = (lt-case _ _ _ _ (search needs) (rw (c .before .before .before .sum-after .ensures) refl), rw (c .before .before .mark .ensures) at (c .put-facts .ensures))
 
 pub add-chance-spec : {M : Type 1} → statement M
 add-chance-spec =
