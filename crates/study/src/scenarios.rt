@@ -149,24 +149,8 @@ pub(crate) fn read_scenarios(
         if scenario_here(after, &bytes[at..]) {
             h = begun(after, &bytes[at..]);
         } else {
-            return Run {
-                core: Core {
-                    reading: after,
-                    counts: k,
-                    branch: b,
-                    tally: y,
-                },
-                at: at,
-            };
+            return Run { core: e, at: at };
         }
     }
-    Run {
-        core: Core {
-            reading: h,
-            counts: k,
-            branch: b,
-            tally: y,
-        },
-        at: at,
-    }
+    Run { core: c, at: at }
 }

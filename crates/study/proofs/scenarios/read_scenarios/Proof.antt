@@ -13,14 +13,14 @@ use Rattle.study.proofs.scenarios.read_scenarios.Tie as tie
 
 -- a record of a scenario stands at the place, and it has been entered
 abbrev Inv-loop : tie.InvT-loop
-Inv-loop table near rows bytes stack₀ sums₀ margins₀ facts₀ kinds₀ h₀ k₀ b₀ y₀ at₀ stack sums margins facts kinds h k b y at =
+Inv-loop table near rows c bytes stack₀ sums₀ margins₀ facts₀ kinds₀ h₀ k₀ b₀ y₀ at₀ stack sums margins facts kinds h k b y at =
     Standing bytes at
     × (3 ≤ getD (drop at bytes) 0 0)
     × (getD (drop at bytes) 0 0 ≤ 6)
     × ((q : List ℕ) → Reached (state (withKinds (core h₀ k₀ b₀ y₀) kinds₀) q stack₀ sums₀ margins₀ facts₀) (state (withKinds (core h k b y) kinds) q stack sums margins facts) bytes at)
 
 abbrev μ-loop : tie.MeasureT-loop
-μ-loop table near rows bytes stack₀ sums₀ margins₀ facts₀ kinds₀ h₀ k₀ b₀ y₀ at₀ stack sums margins facts kinds h k b y at = length bytes - at
+μ-loop table near rows c bytes stack₀ sums₀ margins₀ facts₀ kinds₀ h₀ k₀ b₀ y₀ at₀ stack sums margins facts kinds h k b y at = length bytes - at
 
 -- what a turn reads
 one-at : (c : tie.After-read-one Inv-loop μ-loop) → Records (drop (c .before .before .before .before .before .before .before .before .loop .at) (c .before .before .before .before .before .before .before .before .before .before .before .before .before .before .args .bytes .now)) (c .read-one .result .at)
