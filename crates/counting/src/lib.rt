@@ -82,6 +82,7 @@ pub fn core_branching(c: Core) -> Core
 // The outcome takes the next tree, as it is packed. The lent array has the totals of the kinds; those in the core are old, and stay.
 pub fn core_outcome(c: Core, tree: u64, kind: u8, effects: u16, kinds: &mut [u64; 6]) -> Core
     ensures { λ r. ⌜ withKinds r (now (kinds .exit)) ≡ core (taken (c .reading) 0) (oneRecord (c .counts)) (outcomeBranch (c .branch) tree kind effects) (outcomeTally (withKinds c (now (kinds .entry)) .tally) kind (frequencyOf tree)) ⌝ }
+    ensures { λ r. ⌜ r .tally ≡ c .tally ⌝ }
 {
     let old = c.tally;
     let h = take(c.reading, 0);

@@ -95,6 +95,7 @@ pub fn take_branching(c: Core, chance: u32, stack: &mut [u64; 9]) -> Core
 // The lent array has the totals of the kinds; those in the core are old, and stay.
 pub fn take_outcome(c: Core, kind: u8, effects: u16, stack: &[u64; 9], kinds: &mut [u64; 6]) -> Core
     ensures { λ r. ⌜ withKinds r (now (kinds .exit)) ≡ core (taken (c .reading) 0) (oneRecord (c .counts)) (outcomeBranch (c .branch) (top (now (stack .entry)) (c .branch .height)) kind effects) (outcomeTally (withKinds c (now (kinds .entry)) .tally) kind (frequencyOf (top (now (stack .entry)) (c .branch .height)))) ⌝ }
+    ensures { λ r. ⌜ r .tally ≡ c .tally ⌝ }
 {
     let b = c.branch;
     let tree = next_tree(stack, b.height);

@@ -21,19 +21,21 @@ grow-kind-requires c κs = search needs
 returns : tie.Need-returns
 unfolding outcomeTally
 returns c =
-    let g = c .grow-kind .ensures in
-    rw (
-      c .before .before .before .before .take .ensures,
-      c .before .before .before .count-record .ensures,
-      c .before .before .enter-outcome .ensures,
-      g 0 (omega arith),
-      g 1 (omega arith),
-      g 2 (omega arith),
-      g 3 (omega arith),
-      g 4 (omega arith),
-      g 5 (omega arith),
+    let g = c .grow-kind .ensures in (
+      rw (
+        c .before .before .before .before .take .ensures,
+        c .before .before .before .count-record .ensures,
+        c .before .before .enter-outcome .ensures,
+        g 0 (omega arith),
+        g 1 (omega arith),
+        g 2 (omega arith),
+        g 3 (omega arith),
+        g 4 (omega arith),
+        g 5 (omega arith),
+      )
+          refl,
+      refl,
     )
-    refl
 
 pub core-outcome-spec : {M : Type 1} → statement M
 core-outcome-spec =

@@ -63,7 +63,7 @@ returns-3 c q s m f =
     let own = rw (b .byte-at-1 .ensures, h .half-at-2 .ensures) at (o .outcome-fault .ensures) in
     rw (a .pre)
     (without-fault (state (withKinds (a .args .c) (a .args .kinds .now)) q (a .args .stack .now) s m f) _ _ _ (p .place-fault .ensures) (e .if1 .left) own (c .before .before .if2 .left)
-    (ap (λ (x : Core). state x q (a .args .stack .now) s m f) (rw (b .byte-at-1 .ensures, h .half-at-2 .ensures) at (c .take-outcome .ensures))))
+    (ap (λ (x : Core). state x q (a .args .stack .now) s m f) (rw (b .byte-at-1 .ensures, h .half-at-2 .ensures) at (c .take-outcome .ensures .0))))
 
 pub read-outcome-spec : {M : Type 1} → statement M
 read-outcome-spec =
