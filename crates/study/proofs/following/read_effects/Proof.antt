@@ -7,10 +7,10 @@ use lib.ListN.{replicate}
 use Rattle.model.specs.Content.{inSeconds}
 use Rattle.model.specs.Format.{effectRec}
 use Rattle.model.specs.Verdict.{field, decode}
-use Rattle.model.specs.Machine.{State, state, ownFaultIn, withReading}
+use Rattle.model.specs.Machine.{state, ownFaultIn, withReading}
 use Rattle.counting.specs.Kinds.{withKinds}
 use Rattle.decoding.proofs.DecodeLaws.{decode-effect}
-use Rattle.effects.specs.Effects.{Figures, figures, afterEffects}
+use Rattle.effects.specs.Effects.{Figures}
 use Rattle.effects.proofs.Laws.{effects-none}
 use Rattle.study.specs.Placing.{placeFault}
 use Rattle.study.specs.Following.{coreAfter}
