@@ -38,10 +38,15 @@ fn room(len: usize) -> usize
     (len - 7) / 9
 }
 
-fn least(x: usize, y: usize) -> usize
-    ensures { λ r. ⌜ r ≡ min x y ⌝ }
+// The same, of so many at most.
+fn reach(most: u32, len: usize) -> usize
+    ensures { λ r. ⌜ r ≡ min most ((len - 7) / 9) ⌝ }
 {
-    if x <= y { x } else { y }
+    let all = most as usize;
+    if all * 9 + 7 <= len {
+        return all;
+    }
+    room(len)
 }
 
 // The targets that have a row.
@@ -372,7 +377,7 @@ pub fn take_effects(
     ensures { λ r. ⌜ (LogTables (now (table .entry)) (now (near .entry)) → RowsReached (now (rows .entry)) → (i : ℕ) → i < r .count → sound targets (b .kind) (afterEffects b (figures (b .next) before (now (sums .entry)) (now (margins .entry)) (now (facts .entry))) (now (bytes .entry)) i .next) (drop (i * 9) (now (bytes .entry))) ≡ true) ⌝ }
     ensures { λ r. ⌜ (r .count < min most ((length (now (bytes .entry)) - 7) / 9) → sound targets (b .kind) (r .next) (drop (r .count * 9) (now (bytes .entry))) ≡ false) ⌝ }
 {
-    let top = least(most as usize, room(bytes.len()));
+    let top = reach(most, bytes.len());
     let limit = with_row(targets);
     let mut count: usize = 0;
     let mut next = b.next;

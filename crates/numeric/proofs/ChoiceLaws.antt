@@ -58,6 +58,20 @@ module _ {A : Type 0} (P : A → Type 0) (m n : ℕ) (x y : A) (p : P x) (q : P 
   unfolding ifLt
   lt-both = pick-both P (ltb m n) x y p q
 
+-- A function goes through a choice: both sides are its values, and so is the choice.
+module _ {A B : Type 0} (g : A → B) (m n : ℕ) {a b : A} {x y : B} (p : x ≡ g a) (q : y ≡ g b) where
+  pick-through : (t : Bool) → pick t x y ≡ g (pick t a b)
+  pick-through true = p
+  pick-through false = q
+
+  pub eq-through : ifEq m n x y ≡ g (ifEq m n a b)
+  unfolding ifEq
+  eq-through = pick-through (eqb m n)
+
+  pub le-through : ifLe m n x y ≡ g (ifLe m n a b)
+  unfolding ifLe
+  le-through = pick-through (leb m n)
+
 -- A choice that is a value: the first side is, or the second, and the comparison says which.
 picked-elim : {A C : Type 0} (b : Bool) (x y z : A) → pick b x y ≡ z → (b ≡ true → x ≡ z → C) → (b ≡ false → y ≡ z → C) → C
 picked-elim true x y z e f g = f refl e

@@ -1,11 +1,13 @@
 // Where the reading of a study stands.
 mod entering;
+mod moving;
 
 ghost use mathlib.Core.Path.{_≡_};
 ghost use Prim.Native.Nat.{_+_, _-_, min};
 ghost use Rattle.model.specs.Machine.{core, begun, grown, refusedWith, numberAfter, placeAfter};
 pub use entering::Entered;
 pub use entering::enter_byte;
+pub use moving::moved;
 use state::Core;
 use state::Reading;
 
@@ -67,7 +69,7 @@ pub fn refuse(h: Reading, number: u8) -> Reading
     }
 }
 
-fn gap(x: u64, y: u64) -> u64
+pub(crate) fn gap(x: u64, y: u64) -> u64
     ensures { λ r. ⌜ r ≡ x - y ⌝ }
 {
     if y <= x { x - y } else { 0 }

@@ -105,9 +105,9 @@ module _ (n : ℕ) (h : 0 < n) where
   start-next : (x : ℕ) → x + (n - 1) * 9 ≡ x + (n + 1 - 2) * 9
   start-next x = omega arith
 
--- a place after n effects is counted, with one more
-between-room : (x n : ℕ) → 0 < n → x + (n + 1) * 9 ≤ most64 → x + (n - 1) * 9 + 13 ≤ most64
-between-room x n w h = omega arith
+-- a place after n effects is counted, with one more, where that of the end of k bytes is
+between-room : (x n k : ℕ) → 0 < n → (n + 1) * 9 + 7 ≤ k → x + (k - 9) ≤ most64 → x + (n - 1) * 9 + 13 ≤ most64
+between-room x n k w v h = omega arith
 
 records-next : (x n : ℕ) → upTo most32 (upTo most32 x n) 1 ≡ upTo most32 x (n + 1)
 records-next x n = omega arith
@@ -131,11 +131,13 @@ module _ (c : Core) (s m f l : List ℕ) where
   abbrev after : ℕ → Figures
   after n = afterEffects (c .branch) begin l n
 
-  -- n effects that may be taken: there are bytes to read them in, order, records and places allow them, and none has a fault of its own
+  -- n effects that may be taken: there are bytes to read them in, whose places are counted, order and records allow them, and none has a fault of
+  -- its own
   pub record Free (n : ℕ) : Type 0 where
     pub placed : 0 ≡ placeFault c 6
     pub room : n * 9 + 7 ≤ length l
-    pub more : 1 < n → (n ≤ c .branch .left) × (c .counts .records + n ≤ mostRecords) × (c .reading .place + n * 9 ≤ most64)
+    pub counts : c .reading .place + (length l - 9) ≤ most64
+    pub more : 1 < n → (n ≤ c .branch .left) × (c .counts .records + n ≤ mostRecords)
     pub sounds : (i : ℕ) → i < n → sound (c .counts .targets) (c .branch .kind) (after i .next) (drop (i * 9) l) ≡ true
 
   -- what they leave
@@ -165,7 +167,7 @@ module _ (c : Core) (s m f l : List ℕ) where
       let b = h .more (omega arith) in
       let y : Next (d .reading) p =
       record {
-        between = record { reads = refl; none = refl; room = between-room (c .reading .place) n w (b .2) };
+        between = record { reads = refl; none = refl; room = between-room (c .reading .place) n (length l) w (h .room) (h .counts) };
         known = omega (arith, z);
         room = omega (arith, length-drop (n * 9) l, h .room);
       } in
@@ -192,7 +194,8 @@ module _ (c : Core) (s m f l : List ℕ) where
       record {
         placed = g .placed;
         room = omega (arith, g .room);
-        more = λ w. let b = g .more (omega arith) in (omega (arith, b .0), omega (arith, b .1), omega (arith, b .2));
+        counts = g .counts;
+        more = λ w. let b = g .more (omega arith) in (omega (arith, b .0), omega (arith, b .1));
         sounds = λ i w. g .sounds i (omega arith);
       }))
 

@@ -1,10 +1,8 @@
 -- A record that is no outcome leaves the totals of the kinds, whatever they are. Assumes nothing.
-use mathlib.Core.Path.{_≡_, refl, _∙_, ap}
-use mathlib.Core.Bool.{Bool, true, false}
+use mathlib.Core.Path.{_≡_, refl, sym, _∙_, ap}
 use mathlib.Core.List.{List}
 use Prim.Native.Nat.{ℕ}
-use lib.Dec.{eqb}
-use Rattle.numeric.specs.Choice.{pick, ifEq}
+use Rattle.numeric.proofs.ChoiceLaws.{eq-through}
 use Rattle.state.specs.declared.Core.{Core}
 use Rattle.model.specs.Format.{Record, openingRec, targetRec, leakRec, branchingRec, outcomeRec, effectRec, closingRec}
 use Rattle.model.specs.Machine.{State, state, ownFaultIn, faultIn, studyTally, effectTally, effectState, accepted, withReading, recordRead}
@@ -22,23 +20,15 @@ Other (outcomeRec k n) = ⊥
 Other (effectRec e) = Unit
 Other (closingRec n s) = Unit
 
-either : (l : List ℕ) (m n : ℕ) (a b x y : State) → kinded l a ≡ x → kinded l b ≡ y → kinded l (ifEq m n a b) ≡ ifEq m n x y
-unfolding ifEq
-either l m n a b x y p q = go (eqb m n)
-  where
-    go : (t : Bool) → kinded l (pick t a b) ≡ pick t x y
-    go true = p
-    go false = q
-
 kinds-stay : (l : List ℕ) (s : State) (r : Record) → Other r → kinded l (recordRead s r) ≡ recordRead (kinded l s) r
 unfolding Other kinded recordRead faultIn ownFaultIn accepted withReading effectState studyTally effectTally
-kinds-stay l s (openingRec n) o = either l _ _ _ _ _ _ refl refl
-kinds-stay l s (targetRec n t) o = either l _ _ _ _ _ _ refl refl
-kinds-stay l s (leakRec n f) o = either l _ _ _ _ _ _ refl refl
-kinds-stay l s (branchingRec b) o = either l _ _ _ _ _ _ refl refl
+kinds-stay l s (openingRec n) o = sym (eq-through (kinded l) _ _ refl refl)
+kinds-stay l s (targetRec n t) o = sym (eq-through (kinded l) _ _ refl refl)
+kinds-stay l s (leakRec n f) o = sym (eq-through (kinded l) _ _ refl refl)
+kinds-stay l s (branchingRec b) o = sym (eq-through (kinded l) _ _ refl refl)
 kinds-stay l s (outcomeRec k n) o = absurd o
-kinds-stay l s (effectRec e) o = either l _ _ _ _ _ _ refl refl
-kinds-stay l s (closingRec n t) o = either l _ _ _ _ _ _ refl refl
+kinds-stay l s (effectRec e) o = sym (eq-through (kinded l) _ _ refl refl)
+kinds-stay l s (closingRec n t) o = sym (eq-through (kinded l) _ _ refl refl)
 
 -- what is said of a study before and after such a record is said of it with any totals of the kinds
 pub other-read : (l : List ℕ) (c d : Core) (q k u m f k' u' m' f' : List ℕ) (x r : Record) → x ≡ r → Other r → state d q k' u' m' f' ≡ recordRead (state c q k u m f) x

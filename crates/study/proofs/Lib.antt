@@ -4,3 +4,4 @@ pub mod SpanLaws
 pub mod RecordLaws
 pub mod FollowLaws
 pub mod KindTotalLaws
+pub mod MoveLaws

@@ -7,7 +7,7 @@ use Prim.Native.Nat.{ℕ, _+_, _-_, _<_, _≤_}
 use native.Mathlib.Omega.{arith}
 use native.Mathlib.Numerals.{add-one}
 use lib.ListN.{length, getD, take, drop, replicate, length-drop, take-append-drop}
-use lib.Seq.{take-all, drop-cons, drop-drop, getD-drop, length-take-le, take-add}
+use lib.Seq.{take-all, drop-cons, drop-drop, getD-drop, length-take-le, take-add, take-take}
 use lib.Dec.{T}
 use Rattle.numeric.specs.Choice.{pick, ifEq}
 use Rattle.numeric.proofs.ChoiceLaws.{picked-first, picked-second, eq-both, le-both, eq-second}
@@ -27,6 +27,23 @@ use Rattle.study.specs.Spans.{lengthOf, Next, afterFirst, Records}
 abbrev pub entering : Core → ℕ → Core
 entering c n = core (reading 0 n (c .reading .place + n) (c .reading .place) 0 0) (c .counts) (c .branch) (c .tally)
 
+-- what a record says stands in its own bytes
+own-bytes : (x : ℕ) (l : List ℕ) → 0 < bodyLength x → length (take (bodyLength x) l) ≡ bodyLength x → decode (x ∷ l) ≡ decode (x ∷ take (bodyLength x) l)
+own-bytes x l h e =
+    ap (λ (y : List ℕ). decode (x ∷ y)) (sym (take-append-drop (bodyLength x) l))
+    ∙ decode-prefix (x ∷ take (bodyLength x) l) (drop (bodyLength x) l) record { kind = x; body = take (bodyLength x) l; same = refl; whole = record { known = omega arith; full = e } }
+
+-- and so in the first sixteen
+pub in-sixteen : (l : List ℕ) → 16 ≤ length l → 0 < bodyLength (getD l 0 0) → (getD (take 16 l) 0 0 ≡ getD l 0 0) × (decode (take 16 l) ≡ decode l)
+in-sixteen [] h k = let z : ⊥ = omega arith in absurd z
+in-sixteen (x ∷ l) h k =
+    let b = body-most x in
+    let e : take (bodyLength x) (take 15 l) ≡ take (bodyLength x) l = take-take (bodyLength x) 15 l (omega arith) in
+    let w : length (take 15 l) ≡ 15 = length-take-le 15 l (omega arith) in (
+      refl,
+      own-bytes x (take 15 l) k (length-take-le (bodyLength x) (take 15 l) (omega arith)) ∙ ap (λ (y : List ℕ). decode (x ∷ y)) e ∙ sym (own-bytes x l k (length-take-le (bodyLength x) l (omega arith))),
+    )
+
 -- the bytes of a whole record, read from between two records, leave what the record entered and read leaves
 enter-bytes : (c : Core) (p q k s m f l : List ℕ) (x : ℕ) → Next (c .reading) (x ∷ l) → length p ≡ 16 → length (take (bodyLength x) l) ≡ bodyLength x
     → readAll (state c p k s m f) (take (bodyLength x + 1) (x ∷ l)) ≡ cleared (recordRead (state (entering c (bodyLength x + 1)) q k s m f) (decode (x ∷ l)))
@@ -35,7 +52,7 @@ enter-bytes c p q k s m f l x n w e =
     let b : List ℕ = take (bodyLength x) l in
     let r : Ready (state c p k s m f) = record { reads = n .between .reads; none = n .between .none; wide = w; room = n .between .room } in
     let z : WholeBytes (x ∷ b) = record { kind = x; body = b; same = refl; whole = record { known = omega (arith, n .known); full = e } } in
-    let d : decode (x ∷ l) ≡ decode (x ∷ b) = ap (λ (y : List ℕ). decode (x ∷ y)) (sym (take-append-drop (bodyLength x) l)) ∙ decode-prefix (x ∷ b) (drop (bodyLength x) l) z in
+    let d : decode (x ∷ l) ≡ decode (x ∷ b) = own-bytes x l (n .known) e in
     let g : length (x ∷ b) ≡ bodyLength x + 1 = omega arith in
     let t : take (bodyLength x + 1) (x ∷ l) ≡ (x ∷ b) ++ [] = rw add-one (sym (append-nil (x ∷ b))) in
     rw (t, read-whole (state c p k s m f) x b [] r (omega (arith, n .known)) e (body-most x), pending-decode (x ∷ b) p z, ← d, g)

@@ -20,17 +20,13 @@ use state::Counts;
 use state::Reading;
 use state::Tally;
 
-// How many effects the outcome, the number of records and the places that can be counted allow from an entered one on: at least that one.
+// How many effects the outcome and the number of records allow from an entered one on: all that are left, or that one alone.
 fn most_effects(c: Core) -> u32
     ensures { λ r. ⌜ 0 < r ⌝ }
-    ensures { λ r. ⌜ (1 < r → (r ≤ c .branch .left) × (c .counts .records + r ≤ mostRecords) × (c .reading .place + r * 9 ≤ most64)) ⌝ }
+    ensures { λ r. ⌜ (1 < r → (r ≤ c .branch .left) × (c .counts .records + r ≤ mostRecords)) ⌝ }
 {
-    let h = c.reading;
     let k = c.counts;
     let b = c.branch;
-    if 18_446_744_073_708_551_615 < h.place {
-        return 1;
-    }
     if Study::MOST_RECORDS <= k.records {
         return 1;
     }
@@ -38,23 +34,25 @@ fn most_effects(c: Core) -> u32
         return 1;
     }
     let left = b.left as u32;
-    let spare = Study::MOST_RECORDS - k.records;
-    if left <= spare { left } else { spare }
+    if Study::MOST_RECORDS < k.records + left {
+        return 1;
+    }
+    left
 }
 
 // Effects still to come after some.
-fn still_left(left: u16, count: u32) -> u16
+fn still_left(left: u16, count: usize) -> u16
     requires { ⌜ count ≤ left ⌝ }
     ensures { λ r. ⌜ r ≡ left - count ⌝ }
 {
-    ((left as u32) - count) as u16
+    ((left as usize) - count) as u16
 }
 
-fn reading_after(h: Reading, count: u32) -> Reading
-    requires { ⌜ (0 < count) × (1 < count → h .place + count * 9 ≤ most64) ⌝ }
+fn reading_after(h: Reading, count: usize) -> Reading
+    requires { ⌜ (0 < count) × (h .place + (count - 1) * 9 ≤ most64) ⌝ }
     ensures { λ r. ⌜ r ≡ readingAfter h count ⌝ }
 {
-    let place = h.place + ((count - 1) as u64) * 9;
+    let place = h.place + ((count - 1) * 9) as u64;
     let start = if count == 1 { h.start } else { place - 9 };
     Reading {
         place: place,
@@ -67,8 +65,8 @@ fn reading_after(h: Reading, count: u32) -> Reading
 }
 
 // All but the arrays after some effects.
-fn core_after(c: Core, count: u32, next: u32, unjudged: u32) -> Core
-    requires { ⌜ (0 < count) × (1 < count → c .reading .place + count * 9 ≤ most64) ⌝ }
+fn core_after(c: Core, count: usize, next: u32, unjudged: u32) -> Core
+    requires { ⌜ (0 < count) × (c .reading .place + (count - 1) * 9 ≤ most64) ⌝ }
     requires { ⌜ (count ≤ c .branch .left) × (c .counts .records + count ≤ mostRecords) ⌝ }
     ensures { λ r. ⌜ r ≡ coreAfter c count next unjudged ⌝ }
 {
@@ -76,7 +74,7 @@ fn core_after(c: Core, count: u32, next: u32, unjudged: u32) -> Core
     let b = c.branch;
     let y = c.tally;
     let h = reading_after(c.reading, count);
-    let records = k.records + count;
+    let records = k.records + (count as u32);
     let left = still_left(b.left, count);
     Core {
         reading: h,
@@ -109,7 +107,8 @@ fn core_after(c: Core, count: u32, next: u32, unjudged: u32) -> Core
     }
 }
 
-// The effect that the bytes begin with, which has been entered, and the effects that follow it. The totals of the kinds stay, whatever they are.
+// The effect that the bytes begin with, which has been entered, and the effects that follow it; all the bytes' places are counted. The totals of the
+// kinds stay, whatever they are.
 pub(crate) fn read_effects(
     table: &[u32; 256],
     near: &[u8; 512],
@@ -121,6 +120,7 @@ pub(crate) fn read_effects(
     facts: &mut [u64; 256],
 ) -> Run
     requires { ⌜ LogTables (now table) (now near) × RowsReached (now rows) × (16 ≤ length (now bytes)) × (getD (now bytes) 0 0 ≡ 6) ⌝ }
+    requires { ⌜ c .reading .place + (length (now bytes) - 9) ≤ most64 ⌝ }
     ensures { λ r. ⌜ Records (now (bytes .entry)) (r .at) ⌝ }
     ensures { λ r. ⌜ ((l q k : List ℕ) → state (withKinds (r .core) l) (replicate 16 0) k (now (sums .exit)) (now (margins .exit)) (now (facts .exit)) ≡ afterFirst (state (withKinds c l) q k (now (sums .entry)) (now (margins .entry)) (now (facts .entry))) (now (bytes .entry)) (r .at)) ⌝ }
 {
@@ -155,7 +155,7 @@ pub(crate) fn read_effects(
             at: 9,
         };
     }
-    let after = core_after(c, run.count as u32, run.next, run.unjudged);
+    let after = core_after(c, run.count, run.next, run.unjudged);
     Run {
         core: after,
         at: run.count * 9,

@@ -1,4 +1,5 @@
-// Leaks, branchings, outcomes and effects that follow one another, read at once.
+// Leaks, branchings, outcomes and effects that follow one another, read at once. Their places count from where the first of them begins, until the
+// last is read.
 ghost use mathlib.Core.Path.{_≡_};
 ghost use mathlib.Core.Bool.{true};
 ghost use mathlib.Core.List.{List};
@@ -6,50 +7,35 @@ ghost use Prim.Native.Nat.{ℕ, _+_, _≤_};
 ghost use lib.ListN.{length, getD, replicate};
 ghost use Rattle.log2.specs.Logarithm.{LogTables};
 ghost use Rattle.probit.specs.Table.{RowsReached};
-ghost use Rattle.model.specs.Machine.{reading, state};
+ghost use Rattle.model.specs.Machine.{most64, core, reading, state};
 ghost use Rattle.counting.specs.Kinds.{withKinds};
-ghost use Rattle.study.specs.Spans.{Between, Next, lengthOf, afterFirst, Records};
+ghost use Rattle.study.specs.Spans.{lengthOf, afterFirst, Records};
 use crate::following::read_effects;
 use crate::records::Run;
 use crate::records::read_branching;
 use crate::records::read_leak;
 use crate::records::read_outcome;
+use state::Branch;
 use state::Core;
+use state::Counts;
 use state::Reading;
+use state::Tally;
 
-// Whether the reading stands between two records, far below the greatest place.
+// Whether the reading stands between two records.
 pub(crate) fn between(h: Reading) -> bool
-    ensures { λ r. ⌜ (r ≡ true → Between h) ⌝ }
+    ensures { λ r. ⌜ (r ≡ true → (h .phase ≡ 0) × (h .have ≡ 0)) ⌝ }
 {
     if h.phase == 0 {
         if h.have == 0 {
-            if h.place <= 18_446_744_073_709_551_602 {
-                return true;
-            }
+            return true;
         }
     }
     false
 }
 
-// The record that begins here is entered whole.
-pub(crate) fn begun(h: Reading, bytes: &[u8]) -> Reading
-    requires { ⌜ Between h ⌝ }
-    ensures { λ r. ⌜ r ≡ reading 0 (lengthOf (now (bytes .entry))) (h .place + lengthOf (now (bytes .entry))) (h .place) 0 0 ⌝ }
-{
-    let n = decoding::body_length(decoding::kind(bytes)) + 1;
-    Reading {
-        place: h.place + (n as u64),
-        start: h.place,
-        at: 0,
-        phase: 0,
-        have: n,
-        number: 0,
-    }
-}
-
 // Whether a whole leak, branching, outcome or effect begins here, with room for any record.
 fn scenario_here(h: Reading, bytes: &[u8]) -> bool
-    ensures { λ r. ⌜ (r ≡ true → Next h (now (bytes .entry)) × (3 ≤ getD (now (bytes .entry)) 0 0) × (getD (now (bytes .entry)) 0 0 ≤ 6)) ⌝ }
+    ensures { λ r. ⌜ (r ≡ true → (h .phase ≡ 0) × (h .have ≡ 0) × (16 ≤ length (now (bytes .entry))) × (3 ≤ getD (now (bytes .entry)) 0 0) × (getD (now (bytes .entry)) 0 0 ≤ 6)) ⌝ }
 {
     if between(h) {
         if 16 <= bytes.len() {
@@ -64,13 +50,37 @@ fn scenario_here(h: Reading, bytes: &[u8]) -> bool
     false
 }
 
-// A leak, a branching, an outcome, or an effect with the effects that follow it; the record has been entered. The lent array has the totals of the
-// kinds; those in the core are old.
+// All but the arrays where a record of n bytes has been entered, at a place among the bytes.
+fn entered_at(k: Counts, b: Branch, y: Tally, at: usize, n: u8) -> Core
+    requires { ⌜ at + n ≤ most64 ⌝ }
+    ensures { λ r. ⌜ r ≡ core (reading 0 n (at + n) at 0 0) k b y ⌝ }
+{
+    let start = at as u64;
+    Core {
+        reading: Reading {
+            place: start + (n as u64),
+            start: start,
+            at: 0,
+            phase: 0,
+            have: n,
+            number: 0,
+        },
+        counts: k,
+        branch: b,
+        tally: y,
+    }
+}
+
+// A leak, a branching, an outcome, or an effect with the effects that follow it, at a place among the bytes. A record is read in a slice of sixteen,
+// where no field's end need be tested. The lent array has the totals of the kinds; those in the tally are old.
 fn read_one(
     table: &[u32; 256],
     near: &[u8; 512],
     rows: &[u32; 544],
-    c: Core,
+    k: Counts,
+    b: Branch,
+    y: Tally,
+    at: usize,
     p: &[u8],
     stack: &mut [u64; 9],
     sums: &mut [u64; 256],
@@ -78,28 +88,89 @@ fn read_one(
     facts: &mut [u64; 256],
     kinds: &mut [u64; 6],
 ) -> Run
-    requires { ⌜ LogTables (now table) (now near) × RowsReached (now rows) × (16 ≤ length (now p)) × (3 ≤ getD (now p) 0 0) × (getD (now p) 0 0 ≤ 6) ⌝ }
+    requires { ⌜ LogTables (now table) (now near) × RowsReached (now rows) × (16 ≤ length (now p)) × (3 ≤ getD (now p) 0 0) × (getD (now p) 0 0 ≤ 6) × (at + length (now p) ≤ most64) ⌝ }
     ensures { λ r. ⌜ Records (now (p .entry)) (r .at) ⌝ }
-    ensures { λ r. ⌜ ((q : List ℕ) → state (withKinds (r .core) (now (kinds .exit))) (replicate 16 0) (now (stack .exit)) (now (sums .exit)) (now (margins .exit)) (now (facts .exit)) ≡ afterFirst (state (withKinds c (now (kinds .entry))) q (now (stack .entry)) (now (sums .entry)) (now (margins .entry)) (now (facts .entry))) (now (p .entry)) (r .at)) ⌝ }
+    ensures { λ r. ⌜ ((q : List ℕ) → state (withKinds (r .core) (now (kinds .exit))) (replicate 16 0) (now (stack .exit)) (now (sums .exit)) (now (margins .exit)) (now (facts .exit)) ≡ afterFirst (state (withKinds (core (reading 0 (lengthOf (now (p .entry))) (at + lengthOf (now (p .entry))) at 0 0) k b y) (now (kinds .entry))) q (now (stack .entry)) (now (sums .entry)) (now (margins .entry)) (now (facts .entry))) (now (p .entry)) (r .at)) ⌝ }
 {
-    let kind = decoding::kind(p);
+    let first = &p[0..16];
+    let kind = decoding::kind(first);
     if kind == 6 {
+        let c = entered_at(k, b, y, at, 9);
         return read_effects(table, near, rows, c, p, sums, margins, facts);
     }
     if kind == 5 {
-        let r = read_outcome(c, p, stack, kinds);
+        let c = entered_at(k, b, y, at, 4);
+        let r = read_outcome(c, first, stack, kinds);
         return Run { core: r, at: 4 };
     }
     if kind == 4 {
-        let r = read_branching(c, p, stack);
+        let c = entered_at(k, b, y, at, 5);
+        let r = read_branching(c, first, stack);
         return Run { core: r, at: 5 };
     }
-    let r = read_leak(c, p, stack);
+    let c = entered_at(k, b, y, at, 13);
+    let r = read_leak(c, first, stack);
     Run { core: r, at: 13 }
 }
 
-// The leak, branching, outcome or effect that the bytes begin with, which has been entered, and those that follow it. The parts that go by value stand
-// each by itself in the loop.
+// The records of scenarios that the bytes begin with. The parts that go by value stand each by itself in the loop; the reading that comes in is not
+// looked at.
+fn read_from_first(
+    table: &[u32; 256],
+    near: &[u8; 512],
+    rows: &[u32; 544],
+    c: Core,
+    bytes: &[u8],
+    stack: &mut [u64; 9],
+    sums: &mut [u64; 256],
+    margins: &mut [u32; 256],
+    facts: &mut [u64; 256],
+    kinds: &mut [u64; 6],
+) -> Run
+    requires { ⌜ LogTables (now table) (now near) × RowsReached (now rows) × (16 ≤ length (now bytes)) × (3 ≤ getD (now bytes) 0 0) × (getD (now bytes) 0 0 ≤ 6) ⌝ }
+    ensures { λ r. ⌜ Records (now (bytes .entry)) (r .at) ⌝ }
+    ensures { λ r. ⌜ ((q : List ℕ) → state (withKinds (r .core) (now (kinds .exit))) (replicate 16 0) (now (stack .exit)) (now (sums .exit)) (now (margins .exit)) (now (facts .exit)) ≡ afterFirst (state (withKinds (core (reading 0 (lengthOf (now (bytes .entry))) (lengthOf (now (bytes .entry))) 0 0 0) (c .counts) (c .branch) (c .tally)) (now (kinds .entry))) q (now (stack .entry)) (now (sums .entry)) (now (margins .entry)) (now (facts .entry))) (now (bytes .entry)) (r .at)) ⌝ }
+{
+    let mut h = c.reading;
+    let mut k = c.counts;
+    let mut b = c.branch;
+    let mut y = c.tally;
+    let mut at: usize = 0;
+    let mut more = true;
+    while more {
+        let run = read_one(
+            table,
+            near,
+            rows,
+            k,
+            b,
+            y,
+            at,
+            &bytes[at..],
+            stack,
+            sums,
+            margins,
+            facts,
+            kinds,
+        );
+        let e = run.core;
+        h = e.reading;
+        k = e.counts;
+        b = e.branch;
+        y = e.tally;
+        at += run.at;
+        more = scenario_here(h, &bytes[at..]);
+    }
+    let last = Core {
+        reading: h,
+        counts: k,
+        branch: b,
+        tally: y,
+    };
+    Run { core: last, at: at }
+}
+
+// The leak, branching, outcome or effect that the bytes begin with, which has been entered, and those that follow it.
 pub(crate) fn read_scenarios(
     table: &[u32; 256],
     near: &[u8; 512],
@@ -116,41 +187,23 @@ pub(crate) fn read_scenarios(
     ensures { λ r. ⌜ Records (now (bytes .entry)) (r .at) ⌝ }
     ensures { λ r. ⌜ ((q : List ℕ) → state (withKinds (r .core) (now (kinds .exit))) (replicate 16 0) (now (stack .exit)) (now (sums .exit)) (now (margins .exit)) (now (facts .exit)) ≡ afterFirst (state (withKinds c (now (kinds .entry))) q (now (stack .entry)) (now (sums .entry)) (now (margins .entry)) (now (facts .entry))) (now (bytes .entry)) (r .at)) ⌝ }
 {
-    let mut h = c.reading;
-    let mut k = c.counts;
-    let mut b = c.branch;
-    let mut y = c.tally;
-    let mut at: usize = 0;
-    while 16 <= bytes.len() - at {
-        let d = Core {
-            reading: h,
-            counts: k,
-            branch: b,
-            tally: y,
-        };
-        let run = read_one(
-            table,
-            near,
-            rows,
-            d,
-            &bytes[at..],
-            stack,
-            sums,
-            margins,
-            facts,
-            kinds,
-        );
-        let e = run.core;
-        let after = e.reading;
-        k = e.counts;
-        b = e.branch;
-        y = e.tally;
-        at += run.at;
-        if scenario_here(after, &bytes[at..]) {
-            h = begun(after, &bytes[at..]);
-        } else {
-            return Run { core: e, at: at };
-        }
+    let n = decoding::body_length(decoding::kind(bytes)) + 1;
+    let run = read_from_first(
+        table,
+        near,
+        rows,
+        c,
+        bytes,
+        stack,
+        sums,
+        margins,
+        facts,
+        kinds,
+    );
+    let after = run.core;
+    let h = reading::moved(c.reading, n as u64, after.reading);
+    Run {
+        core: reading::core_reading(after, h),
+        at: run.at,
     }
-    Run { core: c, at: at }
 }

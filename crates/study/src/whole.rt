@@ -13,7 +13,6 @@ ghost use Rattle.counting.specs.Kinds.{withKinds};
 ghost use Rattle.study.specs.Spans.{Between, Next, lengthOf, afterFirst, Records};
 use crate::records::Run;
 use crate::records::read_other;
-use crate::scenarios::begun;
 use crate::scenarios::between;
 use crate::scenarios::read_scenarios;
 use reading::Entered;
@@ -26,9 +25,11 @@ fn next_here(h: Reading, bytes: &[u8]) -> bool
     ensures { λ r. ⌜ (r ≡ true → Next h (now (bytes .entry))) ⌝ }
 {
     if between(h) {
-        if 16 <= bytes.len() {
-            if 0 < decoding::body_length(bytes[0]) {
-                return true;
+        if h.place <= 18_446_744_073_709_551_602 {
+            if 16 <= bytes.len() {
+                if 0 < decoding::body_length(bytes[0]) {
+                    return true;
+                }
             }
         }
     }
@@ -40,7 +41,17 @@ fn entered(c: Core, bytes: &[u8]) -> Core
     requires { ⌜ Between (c .reading) ⌝ }
     ensures { λ r. ⌜ r ≡ core (reading 0 (lengthOf (now (bytes .entry))) (c .reading .place + lengthOf (now (bytes .entry))) (c .reading .place) 0 0) (c .counts) (c .branch) (c .tally) ⌝ }
 {
-    reading::core_reading(c, begun(c.reading, bytes))
+    let n = decoding::body_length(decoding::kind(bytes)) + 1;
+    let h = c.reading;
+    let begun = Reading {
+        place: h.place + (n as u64),
+        start: h.place,
+        at: 0,
+        phase: 0,
+        have: n,
+        number: 0,
+    };
+    reading::core_reading(c, begun)
 }
 
 // The record that the bytes begin with, which has been entered; after a record of a scenario also those of scenarios that follow it.

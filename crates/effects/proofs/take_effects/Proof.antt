@@ -22,26 +22,23 @@ Inv-loop table near rows b targets most before bytes sums₀ margins₀ facts₀
 abbrev μ-loop : tie.MeasureT-loop
 μ-loop table near rows b targets most before bytes sums₀ margins₀ facts₀ top limit count₀ next₀ missed₀ sums margins facts count next missed = top - count
 
-room-requires : tie.Need-room-requires Inv-loop μ-loop
-room-requires c κs = search needs
-
-least-requires : tie.Need-least-requires Inv-loop μ-loop
-least-requires c κs = search needs
+reach-requires : tie.Need-reach-requires Inv-loop μ-loop
+reach-requires c κs = search needs
 
 with-row-requires : tie.Need-with-row-requires Inv-loop μ-loop
 with-row-requires c κs = search needs
 
 loop-holds : tie.Need-loop-holds Inv-loop μ-loop
 loop-holds c =
-    let s = c .before .before .before .before in
+    let s = c .before .before .before in
     let e : upTo most32 (s .args .before) 0 ≡ s .args .before = omega (arith, s .good) in
     (omega arith, omega arith, λ h q. rw e (effects-none _ _ _), λ h q i w. let z : ⊥ = omega arith in absurd z)
 
 mul-at : tie.Need-mul-at Inv-loop μ-loop
-mul-at c = let l = c .before .before .before in omega (arith, c .loop-test .taken, l .least .ensures, l .before .room .ensures, l .before .before .before .good)
+mul-at c = let l = c .before .before .before in omega (arith, c .loop-test .taken, l .reach .ensures, l .before .before .good)
 
 add-p : tie.Need-add-p Inv-loop μ-loop
-add-p c = let l = c .before .before .before in omega (arith, c .loop-test .taken, l .least .ensures, l .before .room .ensures, l .before .before .before .good)
+add-p c = let l = c .before .before .before in omega (arith, c .loop-test .taken, l .reach .ensures, l .before .before .good)
 
 sub-p : tie.Need-sub-p Inv-loop μ-loop
 sub-p c = omega arith
@@ -50,7 +47,7 @@ part-p-start : tie.Need-part-p-start Inv-loop μ-loop
 part-p-start c = omega arith
 
 part-p-end : tie.Need-part-p-end Inv-loop μ-loop
-part-p-end c = let l = c .before .before .before in omega (arith, c .loop-test .taken, l .least .ensures, l .before .room .ensures)
+part-p-end c = let l = c .before .before .before in omega (arith, c .loop-test .taken, l .reach .ensures)
 
 take-one-requires : tie.Need-take-one-requires Inv-loop μ-loop
 take-one-requires c κs = c .before .before .before .before .before .before .with-row .ensures
@@ -60,13 +57,13 @@ add-missed c =
     let k = c .before .before .before in
     let i = k .before .before .before .before .before in
     let l = i .before .before .before in
-    omega (arith, i .before .loop .inv .1, k .take-one .ensures .0 .1, i .loop-test .taken, l .least .ensures, l .before .before .before .good)
+    omega (arith, i .before .loop .inv .1, k .take-one .ensures .0 .1, i .loop-test .taken, l .reach .ensures, l .before .before .good)
 
 add-count : tie.Need-add-count Inv-loop μ-loop
 add-count c =
     let i = c .before .before .before .before .before .before .before .before in
     let l = i .before .before .before in
-    omega (arith, i .loop-test .taken, l .least .ensures, l .before .before .before .good)
+    omega (arith, i .loop-test .taken, l .reach .ensures, l .before .before .good)
 
 loop-less : tie.Need-loop-less Inv-loop μ-loop
 loop-less c = omega (arith, c .before .before .before .before .before .before .before .before .loop-test .taken)
@@ -77,7 +74,7 @@ loop-again c =
     let k = t .before .before in
     let i = k .before .before .before .before .before in
     let v = i .before .loop in
-    let g = i .before .before .before .before .before .before .args in
+    let g = i .before .before .before .before .before .args in
     let e = k .take-one .ensures in (
       omega (arith, i .loop-test .taken),
       omega (arith, v .inv .1, e .0 .1),
@@ -93,7 +90,7 @@ unjudged-after-requires : tie.Need-unjudged-after-requires Inv-loop μ-loop
 unjudged-after-requires c κs =
     let v = c .before .before .before .before .before .before .before .before .loop in
     let l = c .before .before .before .before .before .before .before .before .before .before in
-    omega (arith, v .inv .0, v .inv .1, l .least .ensures, l .before .before .before .good)
+    omega (arith, v .inv .0, v .inv .1, l .reach .ensures, l .before .before .good)
 
 returns : tie.Need-returns Inv-loop μ-loop
 returns c =
@@ -102,9 +99,9 @@ returns c =
     let i = k .before .before .before .before .before in
     let v = i .before .loop in
     let l = i .before .before .before in
-    let g = l .before .before .before .args in
+    let g = l .before .before .args in
     let e = k .take-one .ensures in (
-      omega (arith, i .loop-test .taken, l .least .ensures, l .before .room .ensures),
+      omega (arith, i .loop-test .taken, l .reach .ensures),
       (
         λ h q. rw (c .unjudged-after .ensures) (step-left (g .targets) (g .b) _ _ _ (e .0 .0) _ (o .if1 .left) (e .1 h q) ∙ v .inv .2 h q),
         (v .inv .3, λ w. sym (sound-at _ _ _ (g .bytes .now) (v .count * 9)) ∙ step-unsound (g .targets) (g .b) _ _ _ (e .0 .0) (o .if1 .left)),
@@ -115,16 +112,16 @@ unjudged-after-requires-2 : tie.Need-unjudged-after-requires-2 Inv-loop μ-loop
 unjudged-after-requires-2 c κs =
     let v = c .before .loop in
     let l = c .before .before .before in
-    omega (arith, v .inv .0, v .inv .1, l .least .ensures, l .before .before .before .good)
+    omega (arith, v .inv .0, v .inv .1, l .reach .ensures, l .before .before .good)
 
 returns-2 : tie.Need-returns-2 Inv-loop μ-loop
 returns-2 c =
     let v = c .before .before .loop in
     let l = c .before .before .before .before in (
-      omega (arith, v .inv .0, l .least .ensures, l .before .room .ensures),
+      omega (arith, v .inv .0, l .reach .ensures),
       (
         λ h q. rw (c .unjudged-after2 .ensures) (v .inv .2 h q),
-        (v .inv .3, λ w. let z : ⊥ = omega (arith, w, c .before .loop-test .left, l .least .ensures, l .before .room .ensures) in absurd z),
+        (v .inv .3, λ w. let z : ⊥ = omega (arith, w, c .before .loop-test .left, l .reach .ensures) in absurd z),
       ),
     )
 
@@ -134,8 +131,7 @@ take-effects-spec =
     (tie.spec
     Inv-loop
     μ-loop
-    room-requires
-    least-requires
+    reach-requires
     with-row-requires
     loop-holds
     mul-at

@@ -10,6 +10,9 @@ use Rattle.study.proofs.following.core_after.Tie as tie
 reading-after-requires : tie.Need-reading-after-requires
 reading-after-requires c κs = search needs
 
+cast-records : tie.Need-cast-records
+cast-records c = search needs
+
 add-records : tie.Need-add-records
 add-records c = search needs
 
@@ -24,4 +27,5 @@ returns c =
 
 pub core-after-spec : {M : Type 1} → statement M
 core-after-spec =
-    tie.close (tie.spec reading-after-requires add-records still-left-requires returns)
+    tie.close
+    (tie.spec reading-after-requires cast-records add-records still-left-requires returns)

@@ -35,12 +35,12 @@ returns c =
     let f = c .before .before in
     let s = f .before .before in
     let l = s .args .bytes .now in
-    let n : 9 ≡ lengthOf l = sym (effect-length l (s .pre .3)) in (
-      records-alone l 9 n (s .pre .2),
+    let n : 9 ≡ lengthOf l = sym (effect-length l (s .pre .0 .3)) in (
+      records-alone l 9 n (s .pre .0 .2),
       λ x q k.
           read-alone _ _ q k _ _ _ l 9 n
-          (other-read x (s .args .c) (c .refused .result) q k (s .args .sums .now) (s .args .margins .now) (s .args .facts .now) k (s .args .sums .now) (s .args .margins .now) (s .args .facts .now) (decode l) (effectRec (inSeconds (field l 1 2) (field l 3 4) (field l 7 2))) (decode-effect l (s .pre .3)) tt
-          (rw (decode-effect l (s .pre .3)) (place-refused _ _ _ (f .place-fault .ensures) (c .before .if1 .taken) (rw (c .refused .ensures) refl)))),
+          (other-read x (s .args .c) (c .refused .result) q k (s .args .sums .now) (s .args .margins .now) (s .args .facts .now) k (s .args .sums .now) (s .args .margins .now) (s .args .facts .now) (decode l) (effectRec (inSeconds (field l 1 2) (field l 3 4) (field l 7 2))) (decode-effect l (s .pre .0 .3)) tt
+          (rw (decode-effect l (s .pre .0 .3)) (place-refused _ _ _ (f .place-fault .ensures) (c .before .if1 .taken) (rw (c .refused .ensures) refl)))),
     )
 
 most-effects-requires : tie.Need-most-effects-requires
@@ -66,41 +66,39 @@ returns-2 c =
     let s = f .before .before in
     let g = s .args in
     let l = g .bytes .now in
-    let n : 9 ≡ lengthOf l = sym (effect-length l (s .pre .3)) in
+    let n : 9 ≡ lengthOf l = sym (effect-length l (s .pre .0 .3)) in
     let start : Figures = begin (g .c) (g .sums .now) (g .margins .now) (g .facts .now) l in
     let e = t .take-effects .ensures in
-    let same = (rw none at (e .1 .0 (s .pre .0) (s .pre .1))) ∙ sym (effects-none (g .c .branch) start l) in
-    let u = rw (none, ap (λ (x : Figures). x .next) same) at (e .1 .1 .1 (omega (arith, none, m .most-effects .ensures .0, s .pre .2))) in (
-      records-alone l 9 n (s .pre .2),
+    let same = (rw none at (e .1 .0 (s .pre .0 .0) (s .pre .0 .1))) ∙ sym (effects-none (g .c .branch) start l) in
+    let u = rw (none, ap (λ (x : Figures). x .next) same) at (e .1 .1 .1 (omega (arith, none, m .most-effects .ensures .0, s .pre .0 .2))) in (
+      records-alone l 9 n (s .pre .0 .2),
       λ x q k.
           read-alone _ _ q k _ _ _ l 9 n
-          (other-read x (g .c) (c .refused2 .result) q k (g .sums .now) (g .margins .now) (g .facts .now) k _ _ _ (decode l) (effectRec (inSeconds (field l 1 2) (field l 3 4) (field l 7 2))) (decode-effect l (s .pre .3)) tt
-          (rw (ap (λ (y : Figures). y .sums) same, ap (λ (y : Figures). y .margins) same, ap (λ (y : Figures). y .facts) same, decode-effect l (s .pre .3))
-          (own-refused _ _ _ _ (f .place-fault .ensures) (i .if1 .left) (c .before .own-effect .ensures) (λ z. unsound-fault _ _ _ l u (s .pre .3) (sym (c .before .own-effect .ensures) ∙ z)) (rw (c .refused2 .ensures) refl)))),
+          (other-read x (g .c) (c .refused2 .result) q k (g .sums .now) (g .margins .now) (g .facts .now) k _ _ _ (decode l) (effectRec (inSeconds (field l 1 2) (field l 3 4) (field l 7 2))) (decode-effect l (s .pre .0 .3)) tt
+          (rw (ap (λ (y : Figures). y .sums) same, ap (λ (y : Figures). y .margins) same, ap (λ (y : Figures). y .facts) same, decode-effect l (s .pre .0 .3))
+          (own-refused _ _ _ _ (f .place-fault .ensures) (i .if1 .left) (c .before .own-effect .ensures) (λ z. unsound-fault _ _ _ l u (s .pre .0 .3) (sym (c .before .own-effect .ensures) ∙ z)) (rw (c .refused2 .ensures) refl)))),
     )
-
-cast-core-after : tie.Need-cast-core-after
-cast-core-after c = search needs
 
 core-after-requires : tie.Need-core-after-requires
 core-after-requires c κs =
-    let t = c .before .before .before in
+    let t = c .before .before in
     let m = t .before .before .before .before in
     let i = m .before .before .before .before in
-    let some = c .before .if2 .left in
+    let s = i .before .before .before in
+    let some = c .if2 .left in
     let bound : (1 < t .take-effects .result .count → _) = λ w. m .most-effects .ensures .1 (omega (arith, w, t .take-effects .ensures .0)) in (
-      (omega (arith, some), λ w. omega (arith, bound w .2, t .take-effects .ensures .0)),
+      (omega (arith, some), omega (arith, some, t .take-effects .ensures .0, s .pre .1)),
       within-bounds _ _ (sym (i .if1 .left) ∙ i .before .place-fault .ensures) (λ w. (omega (arith, bound w .0, t .take-effects .ensures .0), omega (arith, bound w .1, t .take-effects .ensures .0))),
     )
 
-mul-t24 : tie.Need-mul-t24
-mul-t24 c = search needs
+mul-t23 : tie.Need-mul-t23
+mul-t23 c = search needs
 
 returns-3 : tie.Need-returns-3
 unfolding placeFault
 returns-3 c =
     let a = c .before in
-    let t = a .before .before .before .before in
+    let t = a .before .before .before in
     let m = t .before .before .before .before in
     let i = m .before .before .before .before in
     let f = i .before in
@@ -108,19 +106,20 @@ returns-3 c =
     let g = s .args in
     let e = t .take-effects .ensures in
     let n = t .take-effects .result .count in
-    let some = a .before .before .if2 .left in
+    let some = a .before .if2 .left in
     let free : (x : List ℕ) → Free (withKinds (g .c) x) (g .sums .now) (g .margins .now) (g .facts .now) (g .bytes .now) n =
     λ x. record {
       placed = sym (i .if1 .left) ∙ f .place-fault .ensures;
       room = omega (arith, some, e .0);
-      more = λ w. let b = m .most-effects .ensures .1 (omega (arith, w, e .0)) in (omega (arith, b .0, e .0), omega (arith, b .1, e .0), omega (arith, b .2, e .0));
-      sounds = e .1 .1 .0 (s .pre .0) (s .pre .1);
+      counts = s .pre .1;
+      more = λ w. let b = m .most-effects .ensures .1 (omega (arith, w, e .0)) in (omega (arith, b .0, e .0), omega (arith, b .1, e .0));
+      sounds = e .1 .1 .0 (s .pre .0 .0) (s .pre .0 .1);
     } in
     let last : n ≡ n - 1 + 1 = omega (arith, some) in (
       effects-read (withKinds (g .c) []) (g .sums .now) (g .margins .now) (g .facts .now) (g .bytes .now) (n - 1) n last (free []) .0,
       λ x q k.
           with-kinds x (g .c) n (t .take-effects .result .next) (t .take-effects .result .unjudged) (a .core-after .ensures)
-          (ap (λ (y : Figures). state (coreAfter (withKinds (g .c) x) n (y .next) (y .unjudged)) (replicate 16 0) k (y .sums) (y .margins) (y .facts)) (e .1 .0 (s .pre .0) (s .pre .1)) ∙ effects-read (withKinds (g .c) x) (g .sums .now) (g .margins .now) (g .facts .now) (g .bytes .now) (n - 1) n last (free x) .1 q k),
+          (ap (λ (y : Figures). state (coreAfter (withKinds (g .c) x) n (y .next) (y .unjudged)) (replicate 16 0) k (y .sums) (y .margins) (y .facts)) (e .1 .0 (s .pre .0 .0) (s .pre .0 .1)) ∙ effects-read (withKinds (g .c) x) (g .sums .now) (g .margins .now) (g .facts .now) (g .bytes .now) (n - 1) n last (free x) .1 q k),
     )
 
 pub read-effects-spec : {M : Type 1} → statement M
@@ -135,7 +134,6 @@ read-effects-spec =
     own-effect-requires
     refused-requires-2
     returns-2
-    cast-core-after
     core-after-requires
-    mul-t24
+    mul-t23
     returns-3)

@@ -1,19 +1,12 @@
 -- `study::following::reading_after` meets its contract: one effect, or more. Assumes nothing.
 use mathlib.Core.Path.{_≡_, refl}
-use Prim.Native.Nat.{ℕ, zero, suc, _+_, _-_, _*_, _<_, _≤_}
+use Prim.Native.Nat.{ℕ, _+_, _-_, _*_, _<_}
 use native.Mathlib.Omega.{arith}
 use Rattle.numeric.specs.Choice.{ifEq}
 use Rattle.numeric.proofs.ChoiceLaws.{eq-case, ne-case}
-use Rattle.model.specs.Machine.{most64}
 use borrow.Author.Needs.{needs}
 use Rattle.study.proofs.following.reading_after.Statement.{statement}
 use Rattle.study.proofs.following.reading_after.Tie as tie
-
--- the place after the last of them is counted
-place-room : (x n : ℕ) → 0 < n → x ≤ most64 → (1 < n → x + n * 9 ≤ most64) → x + (n - 1) * 9 ≤ most64
-place-room x zero h w m = omega arith
-place-room x (suc zero) h w m = omega arith
-place-room x (suc (suc n)) h w m = omega (arith, m (omega arith))
 
 -- where the last of more than one begins
 last-start : (x n : ℕ) → 0 < n → (n ≡ 1 → ⊥) → x + (n - 1) * 9 - 9 ≡ x + (n - 2) * 9
@@ -22,16 +15,11 @@ last-start x n h w = omega arith
 sub-place : tie.Need-sub-place
 sub-place c = search needs
 
-cast-place : tie.Need-cast-place
-cast-place c = search needs
-
 mul-place : tie.Need-mul-place
 mul-place c = search needs
 
 add-place : tie.Need-add-place
-add-place c =
-    let s = c .before in
-    omega (arith, place-room (s .args .h .place) (s .args .count) (s .pre .0) (search needs) (s .pre .1))
+add-place c = search needs
 
 sub-start : tie.Need-sub-start
 sub-start c = search needs
@@ -50,5 +38,4 @@ returns-2 c =
     rw (← b) refl
 
 pub reading-after-spec : {M : Type 1} → statement M
-reading-after-spec =
-    tie.close (tie.spec sub-place cast-place mul-place add-place sub-start returns returns-2)
+reading-after-spec = tie.close (tie.spec sub-place mul-place add-place sub-start returns returns-2)

@@ -6,7 +6,7 @@ use Rattle.study.proofs.scenarios.between.Statement.{statement}
 use Rattle.study.proofs.scenarios.between.Tie as tie
 
 returns : tie.Need-returns
-returns c h = record { reads = search needs; none = search needs; room = search needs }
+returns c = search needs
 
 returns-2 : tie.Need-returns-2
 returns-2 c h = absurd (subst T (sym h) tt)
@@ -14,8 +14,5 @@ returns-2 c h = absurd (subst T (sym h) tt)
 returns-3 : tie.Need-returns-3
 returns-3 c h = absurd (subst T (sym h) tt)
 
-returns-4 : tie.Need-returns-4
-returns-4 c h = absurd (subst T (sym h) tt)
-
 pub between-spec : {M : Type 1} → statement M
-between-spec = tie.close (tie.spec returns returns-2 returns-3 returns-4)
+between-spec = tie.close (tie.spec returns returns-2 returns-3)

@@ -1,83 +1,164 @@
 -- `study::scenarios::read_one` meets its contract, kind by kind. Assumes nothing.
-use mathlib.Core.Path.{_≡_, sym, _∙_}
+use mathlib.Core.Path.{_≡_, sym, _∙_, ap}
+use mathlib.Core.List.{List}
+use Prim.Native.Nat.{ℕ, _+_}
 use native.Mathlib.Omega.{arith}
-use lib.ListN.{getD}
+use lib.ListN.{getD, take}
 use Rattle.numeric.specs.Choice.{ifEq}
-use Rattle.model.specs.Verdict.{bodyLength}
+use Rattle.state.specs.declared.Counts.{Counts}
+use Rattle.state.specs.declared.Branch.{Branch}
+use Rattle.state.specs.declared.Tally.{Tally}
+use Rattle.state.specs.declared.Core.{Core}
+use Rattle.model.specs.Verdict.{bodyLength, decode}
+use Rattle.model.specs.Machine.{State, state, core, reading}
+use Rattle.counting.specs.Kinds.{withKinds}
 use Rattle.decoding.proofs.DecodeLaws.{decode-leak, decode-branching, decode-outcome}
-use Rattle.study.specs.Spans.{lengthOf}
-use Rattle.study.proofs.SpanLaws.{length-at, read-alone, records-alone}
+use Rattle.study.specs.Spans.{lengthOf, afterFirst}
+use Rattle.study.proofs.SpanLaws.{length-at, scenario-known, effect-length, in-sixteen, read-alone, records-alone}
 use Rattle.study.proofs.KindTotalLaws.{Other, other-read}
 use borrow.Author.Needs.{needs}
 use Rattle.study.proofs.scenarios.read_one.Statement.{statement}
 use Rattle.study.proofs.scenarios.read_one.Tie as tie
 
+-- the record entered has the length of the one that the bytes begin with
+entered-after : (c : Core) (k : Counts) (b : Branch) (y : Tally) (at n i : ℕ) (l x q t u m f : List ℕ) (r : State) → n ≡ lengthOf l → c ≡ core (reading 0 n (at + n) at 0 0) k b y
+    → r ≡ afterFirst (state (withKinds c x) q t u m f) l i → r ≡ afterFirst (state (withKinds (core (reading 0 (lengthOf l) (at + lengthOf l) at 0 0) k b y) x) q t u m f) l i
+entered-after c k b y at n i l x q t u m f r h e z =
+    z ∙ ap (λ (d : Core). afterFirst (state (withKinds d x) q t u m f) l i) (e ∙ ap (λ (v : ℕ). core (reading 0 v (at + v) at 0 0) k b y) h)
+
+sub-first : tie.Need-sub-first
+sub-first c = search needs
+
+part-first-start : tie.Need-part-first-start
+part-first-start c = search needs
+
+part-first-end : tie.Need-part-first-end
+part-first-end c = search needs
+
 kind-requires : tie.Need-kind-requires
 kind-requires c κs = search needs
 
-read-effects-requires : tie.Need-read-effects-requires
-read-effects-requires c κs = search needs
+-- the first sixteen bytes have the kind and the record
+in-first : (c : tie.After-kind) → let l = c .before .before .before .args .p .now in (getD (take 16 l) 0 0 ≡ getD l 0 0) × (decode (take 16 l) ≡ decode l)
+in-first c =
+    let s = c .before .before .before in
+    in-sixteen (s .args .p .now) (s .pre .2) (scenario-known _ (s .pre .3) (s .pre .4))
 
-returns : tie.Need-returns
-returns c = (c .read-effects .ensures .0, λ q. c .read-effects .ensures .1 (c .before .before .before .before .before .before .before .args .kinds .now) q _)
+entered-at-requires : tie.Need-entered-at-requires
+entered-at-requires c κs = search needs
 
 -- the kinds that the tests leave
-outcome-at : (c : tie.Then2) → getD (c .before .before .before .before .args .p .now) 0 0 ≡ 5
+effect-at : (c : tie.Then1) → getD (c .before .before .before .before .args .p .now) 0 0 ≡ 6
+effect-at c = sym (in-first (c .before) .0) ∙ sym (c .before .kind .ensures) ∙ c .if1 .taken
+
+outcome-at : (c : tie.Then2) → getD (take 16 (c .before .before .before .before .before .args .p .now)) 0 0 ≡ 5
 outcome-at c = sym (c .before .before .kind .ensures) ∙ c .if2 .taken
 
-branching-at : (c : tie.Then3) → getD (c .before .before .before .before .before .args .p .now) 0 0 ≡ 4
+branching-at : (c : tie.Then3) → getD (take 16 (c .before .before .before .before .before .before .args .p .now)) 0 0 ≡ 4
 branching-at c = sym (c .before .before .before .kind .ensures) ∙ c .if3 .taken
 
-leak-at : (c : tie.Else3) → getD (c .before .before .before .before .before .args .p .now) 0 0 ≡ 3
+leak-at : (c : tie.Else3) → getD (take 16 (c .before .before .before .before .before .before .args .p .now)) 0 0 ≡ 3
 leak-at c =
     let k = c .before .before .before in
-    omega (arith, k .before .before .pre .3, k .before .before .pre .4, k .kind .ensures, c .before .before .if1 .left, c .before .if2 .left, c .if3 .left)
+    let s = k .before .before .before in
+    omega (arith, s .pre .3, s .pre .4, in-first k .0, k .kind .ensures, c .before .before .if1 .left, c .before .if2 .left, c .if3 .left)
+
+read-effects-requires : tie.Need-read-effects-requires
+read-effects-requires c κs =
+    let e = c .before .before .before in
+    let s = e .before .before .before .before .before in
+    ((s .pre .0, s .pre .1, s .pre .2, effect-at (e .before)), rw (e .entered-at .ensures) (omega (arith, s .pre .2, s .pre .5)))
+
+returns : tie.Need-returns
+returns c =
+    let e = c .before .before .before .before in
+    let s = e .before .before .before .before .before in
+    let g = s .args in
+    let n : 9 ≡ lengthOf (g .p .now) = sym (effect-length (g .p .now) (effect-at (e .before))) in
+    (c .read-effects .ensures .0, λ q. entered-after _ (g .k) (g .b) (g .y) (g .at) 9 _ (g .p .now) (g .kinds .now) q _ _ _ _ _ n (e .entered-at .ensures) (c .read-effects .ensures .1 (g .kinds .now) q _))
+
+entered-at-requires-2 : tie.Need-entered-at-requires-2
+entered-at-requires-2 c κs = search needs
 
 read-outcome-requires : tie.Need-read-outcome-requires
-read-outcome-requires c κs = decode-outcome _ (outcome-at (c .before .before))
+read-outcome-requires c κs = decode-outcome _ (outcome-at (c .before .before .before))
 
 returns-2 : tie.Need-returns-2
 unfolding bodyLength ifEq
 returns-2 c =
-    let a = c .before .before .before .before .before .before .before in
-    let l = a .args .p .now in
-    let n : 4 ≡ lengthOf l = length-at (sym (outcome-at (c .before .before .before))) in
-    (records-alone l 4 n (a .pre .2), λ q. read-alone _ _ q _ _ _ _ l 4 n (c .read-outcome .ensures q _ _ _))
+    let e = c .before .before .before in
+    let w = in-first (e .before .before .before) in
+    let s = e .before .before .before .before .before .before in
+    let g = s .args in
+    let l = g .p .now in
+    let n : 4 ≡ lengthOf l = length-at (sym (outcome-at (e .before)) ∙ w .0) in (
+      records-alone l 4 n (s .pre .2),
+      λ q.
+          entered-after _ (g .k) (g .b) (g .y) (g .at) 4 4 l (g .kinds .now) q _ _ _ _ _ n (e .entered-at2 .ensures)
+          (read-alone _ _ q _ _ _ _ l 4 n (rw (w .1) at (c .read-outcome .ensures q (g .sums .now) (g .margins .now) (g .facts .now)))),
+    )
+
+entered-at-requires-3 : tie.Need-entered-at-requires-3
+entered-at-requires-3 c κs = search needs
 
 read-branching-requires : tie.Need-read-branching-requires
-read-branching-requires c κs = decode-branching _ (branching-at (c .before))
+read-branching-requires c κs = decode-branching _ (branching-at (c .before .before))
 
 returns-3 : tie.Need-returns-3
 unfolding bodyLength ifEq Other
 returns-3 c =
-    let a = c .before .before .before .before .before .before .before in
-    let l = a .args .p .now in
-    let k = branching-at (c .before .before) in
-    let n : 5 ≡ lengthOf l = length-at (sym k) in
-    (records-alone l 5 n (a .pre .2), λ q. read-alone _ _ q _ _ _ _ l 5 n (other-read (a .args .kinds .now) _ _ q _ _ _ _ _ _ _ _ _ _ (decode-branching l k) tt (c .read-branching .ensures q _ _ _)))
+    let e = c .before .before in
+    let w = in-first (e .before .before .before .before) in
+    let s = e .before .before .before .before .before .before .before in
+    let g = s .args in
+    let l = g .p .now in
+    let k = branching-at (e .before) in
+    let n : 5 ≡ lengthOf l = length-at (sym k ∙ w .0) in (
+      records-alone l 5 n (s .pre .2),
+      λ q.
+          entered-after _ (g .k) (g .b) (g .y) (g .at) 5 5 l (g .kinds .now) q _ _ _ _ _ n (e .entered-at3 .ensures)
+          (read-alone _ _ q _ _ _ _ l 5 n (rw (w .1) at (other-read (g .kinds .now) _ _ q _ _ _ _ _ _ _ _ _ _ (decode-branching (take 16 l) k) tt (c .read-branching .ensures q (g .sums .now) (g .margins .now) (g .facts .now))))),
+    )
+
+entered-at-requires-4 : tie.Need-entered-at-requires-4
+entered-at-requires-4 c κs = search needs
 
 read-leak-requires : tie.Need-read-leak-requires
-read-leak-requires c κs = decode-leak _ (leak-at (c .before))
+read-leak-requires c κs = decode-leak _ (leak-at (c .before .before))
 
 returns-4 : tie.Need-returns-4
 unfolding bodyLength ifEq Other
 returns-4 c =
-    let a = c .before .before .before .before .before .before .before in
-    let l = a .args .p .now in
-    let k = leak-at (c .before .before) in
-    let n : 13 ≡ lengthOf l = length-at (sym k) in
-    (records-alone l 13 n (a .pre .2), λ q. read-alone _ _ q _ _ _ _ l 13 n (other-read (a .args .kinds .now) _ _ q _ _ _ _ _ _ _ _ _ _ (decode-leak l k) tt (c .read-leak .ensures q _ _ _)))
+    let e = c .before .before in
+    let w = in-first (e .before .before .before .before) in
+    let s = e .before .before .before .before .before .before .before in
+    let g = s .args in
+    let l = g .p .now in
+    let k = leak-at (e .before) in
+    let n : 13 ≡ lengthOf l = length-at (sym k ∙ w .0) in (
+      records-alone l 13 n (s .pre .2),
+      λ q.
+          entered-after _ (g .k) (g .b) (g .y) (g .at) 13 13 l (g .kinds .now) q _ _ _ _ _ n (e .entered-at4 .ensures)
+          (read-alone _ _ q _ _ _ _ l 13 n (rw (w .1) at (other-read (g .kinds .now) _ _ q _ _ _ _ _ _ _ _ _ _ (decode-leak (take 16 l) k) tt (c .read-leak .ensures q (g .sums .now) (g .margins .now) (g .facts .now))))),
+    )
 
 pub read-one-spec : {M : Type 1} → statement M
 read-one-spec =
     tie.close
     (tie.spec
+    sub-first
+    part-first-start
+    part-first-end
     kind-requires
+    entered-at-requires
     read-effects-requires
     returns
+    entered-at-requires-2
     read-outcome-requires
     returns-2
+    entered-at-requires-3
     read-branching-requires
     returns-3
+    entered-at-requires-4
     read-leak-requires
     returns-4)

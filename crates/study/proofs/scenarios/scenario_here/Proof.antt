@@ -1,7 +1,6 @@
 -- `study::scenarios::scenario_here` meets its contract, case by case. Assumes nothing.
 use mathlib.Core.Path.{subst, sym}
 use lib.Dec.{T}
-use Rattle.study.proofs.SpanLaws.{scenario-known}
 use borrow.Author.Needs.{needs}
 use Rattle.study.proofs.scenarios.scenario_here.Statement.{statement}
 use Rattle.study.proofs.scenarios.scenario_here.Tie as tie
@@ -15,9 +14,8 @@ shared-slice-read-kind c = search needs
 returns : tie.Need-returns
 returns c h =
     let b = c .before .before .before .before .before in
-    let l = c .before .if3 .taken in
-    let m = c .if4 .taken in
-    (record { between = b .between .ensures (c .before .before .before .before .if1 .taken); known = scenario-known _ l m; room = search needs }, l, m)
+    let e = b .between .ensures (c .before .before .before .before .if1 .taken) in
+    (e .0, e .1, search needs, c .before .if3 .taken, c .if4 .taken)
 
 returns-2 : tie.Need-returns-2
 returns-2 c h = absurd (subst T (sym h) tt)

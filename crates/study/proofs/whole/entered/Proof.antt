@@ -1,17 +1,44 @@
--- `study::whole::entered` meets its contract. Assumes nothing.
+-- `study::whole::entered` meets its contract: no record has more than thirteen bytes. Assumes nothing.
 use mathlib.Core.Path.{refl}
+use native.Mathlib.Omega.{arith}
+use Rattle.model.proofs.CodecLaws.{body-most}
 use borrow.Author.Needs.{needs}
 use Rattle.study.proofs.whole.entered.Statement.{statement}
 use Rattle.study.proofs.whole.entered.Tie as tie
 
-begun-requires : tie.Need-begun-requires
-begun-requires c κs = search needs
+kind-requires : tie.Need-kind-requires
+kind-requires c κs = search needs
+
+body-length-requires : tie.Need-body-length-requires
+body-length-requires c κs = search needs
+
+add-n : tie.Need-add-n
+add-n c = omega (arith, c .body-length .ensures, body-most (c .before .kind .result))
+
+cast-t8 : tie.Need-cast-t8
+cast-t8 c = search needs
+
+add-t9 : tie.Need-add-t9
+add-t9 c =
+    let b = c .before .before in
+    omega (arith, b .before .before .before .pre .room, b .body-length .ensures, body-most (b .before .kind .result))
 
 core-reading-requires : tie.Need-core-reading-requires
 core-reading-requires c κs = search needs
 
 returns : tie.Need-returns
-returns c = rw (c .core-reading .ensures, c .before .begun .ensures) refl
+returns c =
+    let b = c .before .before .before in
+    rw (c .core-reading .ensures, b .body-length .ensures, b .before .kind .ensures) refl
 
 pub entered-spec : {M : Type 1} → statement M
-entered-spec = tie.close (tie.spec begun-requires core-reading-requires returns)
+entered-spec =
+    tie.close
+    (tie.spec
+    kind-requires
+    body-length-requires
+    add-n
+    cast-t8
+    add-t9
+    core-reading-requires
+    returns)

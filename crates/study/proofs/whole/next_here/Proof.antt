@@ -17,8 +17,14 @@ body-length-requires c κs = search needs
 
 returns : tie.Need-returns
 returns c h =
-    let b = c .before .before .before .before in
-    record { between = b .before .between .ensures (b .if1 .taken); known = omega (arith, c .if3 .taken, c .before .body-length .ensures); room = search needs }
+    let near = c .before .before .before .before in
+    let b = near .before .before in
+    let e = b .before .between .ensures (b .if1 .taken) in
+    record {
+      between = record { reads = e .0; none = e .1; room = omega (arith, near .if2 .taken) };
+      known = omega (arith, c .if4 .taken, c .before .body-length .ensures);
+      room = search needs;
+    }
 
 returns-2 : tie.Need-returns-2
 returns-2 c h = absurd (subst T (sym h) tt)
@@ -28,6 +34,9 @@ returns-3 c h = absurd (subst T (sym h) tt)
 
 returns-4 : tie.Need-returns-4
 returns-4 c h = absurd (subst T (sym h) tt)
+
+returns-5 : tie.Need-returns-5
+returns-5 c h = absurd (subst T (sym h) tt)
 
 pub next-here-spec : {M : Type 1} → statement M
 next-here-spec =
@@ -39,4 +48,5 @@ next-here-spec =
     returns
     returns-2
     returns-3
-    returns-4)
+    returns-4
+    returns-5)
