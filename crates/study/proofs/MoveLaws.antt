@@ -84,7 +84,6 @@ module _ (f : Reading) (n : ℕ) where
   unfoldable movedIn : State → State
   movedIn s = with s (moved f n (s .core .reading))
 
-  -- where a record is taken or refused the places alone of the reading before it stay
   taken-moved : (h : Reading) (phase : ℕ) → (phase ≡ 2 → ⊥) → reading phase 0 (shifted f n (h .place)) (shifted f n (h .start)) 0 0 ≡ moved f n (taken h phase)
   unfolding moved taken
   taken-moved h phase z = ap (λ (x : ℕ). reading phase 0 (shifted f n (h .place)) (shifted f n (h .start)) 0 x) (ne-case _ _ _ _ z refl)
@@ -93,6 +92,7 @@ module _ (f : Reading) (n : ℕ) where
   unfolding moved refusedWith
   refused-moved h k = ap (λ (x : ℕ). reading 2 0 (shifted f n (h .place)) (shifted f n (h .start)) k x) (eq-case _ _ _ _ refl refl)
 
+  -- a record is taken or refused, wherever it stands; of the reading before it the two places alone are looked at
   record-case : (s t : State) (phase c : ℕ) → (phase ≡ 2 → ⊥)
       → ifEq c 0 (with t (reading phase 0 (shifted f n (s .core .reading .place)) (shifted f n (s .core .reading .start)) 0 0))
       (with s (reading 2 0 (shifted f n (s .core .reading .place)) (shifted f n (s .core .reading .start)) c (shifted f n (s .core .reading .start))))
