@@ -76,13 +76,9 @@ read-counts s (b ∷ l) w h =
 
 -- ---- moving the places changes nothing else
 
--- the study with another reading
-abbrev with : State → Reading → State
-with s h = state (core h (s .core .counts) (s .core .branch) (s .core .tally)) (s .pending) (s .stack) (s .sums) (s .margins) (s .facts)
-
 module _ (f : Reading) (n : ℕ) where
   unfoldable movedIn : State → State
-  movedIn s = with s (moved f n (s .core .reading))
+  movedIn s = withReading s (moved f n (s .core .reading))
 
   taken-moved : (h : Reading) (phase : ℕ) → (phase ≡ 2 → ⊥) → reading phase 0 (shifted f n (h .place)) (shifted f n (h .start)) 0 0 ≡ moved f n (taken h phase)
   unfolding moved taken
@@ -94,14 +90,14 @@ module _ (f : Reading) (n : ℕ) where
 
   -- a record is taken or refused, wherever it stands; of the reading before it the two places alone are looked at
   record-case : (s t : State) (phase c : ℕ) → (phase ≡ 2 → ⊥)
-      → ifEq c 0 (with t (reading phase 0 (shifted f n (s .core .reading .place)) (shifted f n (s .core .reading .start)) 0 0))
-      (with s (reading 2 0 (shifted f n (s .core .reading .place)) (shifted f n (s .core .reading .start)) c (shifted f n (s .core .reading .start))))
-      ≡ movedIn (ifEq c 0 (with t (taken (s .core .reading) phase)) (with s (refusedWith (s .core .reading) c)))
-  unfolding movedIn
-  record-case s t phase c z = eq-through movedIn _ _ (ap (with t) (taken-moved (s .core .reading) phase z)) (ap (with s) (refused-moved (s .core .reading) c))
+      → ifEq c 0 (withReading t (reading phase 0 (shifted f n (s .core .reading .place)) (shifted f n (s .core .reading .start)) 0 0))
+      (withReading s (reading 2 0 (shifted f n (s .core .reading .place)) (shifted f n (s .core .reading .start)) c (shifted f n (s .core .reading .start))))
+      ≡ movedIn (ifEq c 0 (withReading t (taken (s .core .reading) phase)) (withReading s (refusedWith (s .core .reading) c)))
+  unfolding movedIn withReading
+  record-case s t phase c z = eq-through movedIn _ _ (ap (withReading t) (taken-moved (s .core .reading) phase z)) (ap (withReading s) (refused-moved (s .core .reading) c))
 
   record-moved : (s : State) (phase have number at : ℕ) (r : Record)
-      → recordRead (with s (reading phase have (shifted f n (s .core .reading .place)) (shifted f n (s .core .reading .start)) number at)) r ≡ movedIn (recordRead s r)
+      → recordRead (withReading s (reading phase have (shifted f n (s .core .reading .place)) (shifted f n (s .core .reading .start)) number at)) r ≡ movedIn (recordRead s r)
   unfolding recordRead faultIn ownFaultIn accepted withReading effectState taken refusedWith
   record-moved s phase have number at (openingRec x) = record-case s (accepted s (openingRec x)) 0 _ (λ e. omega arith)
   record-moved s phase have number at (targetRec x t) = record-case s (accepted s (targetRec x t)) 0 _ (λ e. omega arith)
@@ -130,19 +126,19 @@ module _ (f : Reading) (n : ℕ) where
   grown-moved h z w v = ap₂ (λ (x y : ℕ). reading 0 (upTo 15 (h .have) 1) x (shifted f n (h .start)) 0 y) (place-moved (h .place) z w v) (ne-case _ _ _ _ (λ e. omega arith) refl)
 
   ended-moved : (s : State) → ended (movedIn s) ≡ movedIn (ended s)
-  unfolding movedIn ended cleared moved
+  unfolding movedIn ended cleared moved withReading
   ended-moved s = le-through movedIn _ _ (ap cleared (record-moved s _ _ _ _ (decode (s .pending)))) refl
 
   body-moved : (s : State) (b : ℕ) → 0 < n → n ≤ s .core .reading .place → s .core .reading .place + 1 ≤ most64 → body (movedIn s) b ≡ movedIn (body s b)
-  unfolding movedIn body moved
-  body-moved s b z w v = ap (λ (h : Reading). ended (with (state (s .core) (store 16 (s .pending) (s .core .reading .have) b) (s .stack) (s .sums) (s .margins) (s .facts)) h)) (grown-moved (s .core .reading) z w v) ∙ ended-moved _
+  unfolding movedIn body moved withReading
+  body-moved s b z w v = ap (λ (h : Reading). ended (withReading (state (s .core) (store 16 (s .pending) (s .core .reading .have) b) (s .stack) (s .sums) (s .margins) (s .facts)) h)) (grown-moved (s .core .reading) z w v) ∙ ended-moved _
 
   step-moved : (s : State) (b : ℕ) → 0 < n → n ≤ s .core .reading .place → s .core .reading .place + 1 ≤ most64 → step (movedIn s) b ≡ movedIn (step s b)
-  unfolding movedIn step moved
+  unfolding movedIn step moved withReading
   step-moved s b z w v =
       eq-through movedIn _ _
       (eq-through movedIn _ _
-      (ap (λ (h : Reading). with (state (s .core) (store 16 (s .pending) 0 b) (s .stack) (s .sums) (s .margins) (s .facts)) h) (begun-moved (s .core .reading) b z w v))
+      (ap (λ (h : Reading). withReading (state (s .core) (store 16 (s .pending) 0 b) (s .stack) (s .sums) (s .margins) (s .facts)) h) (begun-moved (s .core .reading) b z w v))
       (body-moved s b z w v))
       refl
 
@@ -163,6 +159,7 @@ atFirst n = reading 0 n n 0 0 0
 
 entered-moved : (h : Reading) (n : ℕ) (k : Counts) (b : Branch) (y : Tally) (q st u m f : List ℕ) (r : Record) → 0 < n → h .place ≤ most64
     → recordRead (state (core h k b y) q st u m f) r ≡ movedIn h n (recordRead (state (core (atFirst n) k b y) q st u m f) r)
+unfolding withReading
 entered-moved h n k b y q st u m f r z w =
     let a : h .place ≡ shifted h n n = ne-case _ _ _ _ (λ e. omega arith) (omega arith) in
     let c : h .start ≡ shifted h n 0 = eq-case _ _ _ _ refl refl in
@@ -190,7 +187,7 @@ module _ (l : List ℕ) (n : ℕ) (r : Records l n) (w : length l ≤ most64) wh
   pub placed : (h : Reading) (k : Counts) (b : Branch) (y : Tally) (q st u m f p st' u' m' f' : List ℕ) (d : Core) → h .place ≤ most64
       → state d p st' u' m' f' ≡ afterFirst (state (core (atFirst (lengthOf l)) k b y) q st u m f) l n
       → state (core (moved h (lengthOf l) (d .reading)) (d .counts) (d .branch) (d .tally)) p st' u' m' f' ≡ afterFirst (state (core h k b y) q st u m f) l n
-  unfolding movedIn cleared
+  unfolding movedIn cleared withReading
   placed h k b y q st u m f p st' u' m' f' d v e =
       let s : State = state (core (atFirst (lengthOf l)) k b y) q st u m f in
       let c : recordRead s (decode l) .core .reading .place ≡ lengthOf l = record-place s (decode l) in

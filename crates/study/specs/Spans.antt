@@ -28,7 +28,7 @@ pub record Next (h : Reading) (l : List ℕ) : Type 0 where
 abbrev pub afterFirst : State → List ℕ → ℕ → State
 afterFirst s l n = readAll (cleared (recordRead s (decode l))) (take (n - lengthOf l) (drop (lengthOf l) l))
 
--- the first n bytes are whole records, and more than the first only where sixteen bytes follow it
+-- the first n bytes, of so many, have the first record whole, and more than it only where sixteen bytes follow it
 pub record Records (l : List ℕ) (n : ℕ) : Type 0 where
   pub first : lengthOf l ≤ n
   pub there : n ≤ length l

@@ -50,16 +50,15 @@ fn scenario_here(h: Reading, bytes: &[u8]) -> bool
     false
 }
 
-// All but the arrays where a record of n bytes has been entered, at a place among the bytes.
-fn entered_at(k: Counts, b: Branch, y: Tally, at: usize, n: u8) -> Core
+// All but the arrays where a record of n bytes has been entered, at a place.
+pub(crate) fn entered_at(k: Counts, b: Branch, y: Tally, at: u64, n: u8) -> Core
     requires { ⌜ at + n ≤ most64 ⌝ }
     ensures { λ r. ⌜ r ≡ core (reading 0 n (at + n) at 0 0) k b y ⌝ }
 {
-    let start = at as u64;
     Core {
         reading: Reading {
-            place: start + (n as u64),
-            start: start,
+            place: at + (n as u64),
+            start: at,
             at: 0,
             phase: 0,
             have: n,
@@ -80,7 +79,7 @@ fn read_one(
     k: Counts,
     b: Branch,
     y: Tally,
-    at: usize,
+    at: u64,
     p: &[u8],
     stack: &mut [u64; 9],
     sums: &mut [u64; 256],
@@ -145,7 +144,7 @@ fn read_from_first(
             k,
             b,
             y,
-            at,
+            at as u64,
             &bytes[at..],
             stack,
             sums,

@@ -14,6 +14,7 @@ ghost use Rattle.study.specs.Spans.{Between, Next, lengthOf, afterFirst,
 use crate::records::Run;
 use crate::records::read_other;
 use crate::scenarios::between;
+use crate::scenarios::entered_at;
 use crate::scenarios::read_scenarios;
 use reading::Entered;
 use reading::enter_byte;
@@ -43,15 +44,7 @@ fn entered(c: Core, bytes: &[u8]) -> Core
 {
     let n = decoding::body_length(decoding::kind(bytes)) + 1;
     let h = c.reading;
-    let begun = Reading {
-        place: h.place + (n as u64),
-        start: h.place,
-        at: 0,
-        phase: 0,
-        have: n,
-        number: 0,
-    };
-    reading::core_reading(c, begun)
+    entered_at(c.counts, c.branch, c.tally, h.place, n)
 }
 
 // The record that the bytes begin with, which has been entered; after a record of a scenario also those of scenarios that follow it.

@@ -107,10 +107,11 @@ loop-again c =
     let l = g .bytes .now in
     let w = v .inv .0 (i .loop-test .taken) in
     let r = records-at t in
-    let at = v .at + t .read-one .result .at in (
+    let at = v .at + t .read-one .result .at in
+    let a : ((q : List ℕ) → _) = λ q. more-read _ _ _ l (v .at) _ (w .0) (w .3 q) (one-at t) (rw (rest-is l (v .at)) at (t .read-one .ensures .1 q)) in (
       λ e.
           let n = rw (rest-is l at) at (c .scenario-here .ensures e) in
-          let p = counted l at r (omega (arith, s .good)) _ _ _ [] _ _ _ _ _ (more-read _ _ _ l (v .at) _ (w .0) (w .3 []) (one-at t) (rw (rest-is l (v .at)) at (t .read-one .ensures .1 []))) (n .0) in
+          let p = counted l at r (omega (arith, s .good)) _ _ _ [] _ _ _ _ _ (a []) (n .0) in
           let d = length-drop at l in
           let x : Next (t .read-one .result .core .reading) (drop at l) =
           record {
@@ -121,9 +122,9 @@ loop-again c =
             standing-next _ l at r x,
             n .3,
             n .4,
-            λ q. rw p at (reached-next _ _ q _ _ _ _ l at r x (more-read _ _ _ l (v .at) _ (w .0) (w .3 q) (one-at t) (rw (rest-is l (v .at)) at (t .read-one .ensures .1 q)))),
+            λ q. rw p at (reached-next _ _ q _ _ _ _ l at r x (a q)),
           ),
-      λ e. (r, λ q. more-read _ _ _ l (v .at) _ (w .0) (w .3 q) (one-at t) (rw (rest-is l (v .at)) at (t .read-one .ensures .1 q))),
+      λ e. (r, a),
     )
 
 returns : tie.Need-returns Inv-loop μ-loop

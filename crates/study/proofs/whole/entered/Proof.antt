@@ -15,30 +15,16 @@ body-length-requires c κs = search needs
 add-n : tie.Need-add-n
 add-n c = omega (arith, c .body-length .ensures, body-most (c .before .kind .result))
 
-cast-t8 : tie.Need-cast-t8
-cast-t8 c = search needs
-
-add-t9 : tie.Need-add-t9
-add-t9 c =
-    let b = c .before .before in
+entered-at-requires : tie.Need-entered-at-requires
+entered-at-requires c κs =
+    let b = c .before in
     omega (arith, b .before .before .before .pre .room, b .body-length .ensures, body-most (b .before .kind .result))
-
-core-reading-requires : tie.Need-core-reading-requires
-core-reading-requires c κs = search needs
 
 returns : tie.Need-returns
 returns c =
-    let b = c .before .before .before in
-    rw (c .core-reading .ensures, b .body-length .ensures, b .before .kind .ensures) refl
+    let b = c .before .before in
+    rw (c .entered-at .ensures, b .body-length .ensures, b .before .kind .ensures) refl
 
 pub entered-spec : {M : Type 1} → statement M
 entered-spec =
-    tie.close
-    (tie.spec
-    kind-requires
-    body-length-requires
-    add-n
-    cast-t8
-    add-t9
-    core-reading-requires
-    returns)
+    tie.close (tie.spec kind-requires body-length-requires add-n entered-at-requires returns)
