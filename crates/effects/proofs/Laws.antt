@@ -9,12 +9,22 @@ use native.Mathlib.Numerals.{add-one}
 use lib.ListN.{take, drop}
 use lib.Seq.{getD-take}
 use Rattle.numeric.specs.Choice.{pick}
+use Rattle.log2.specs.Logarithm.{LogTables}
+use Rattle.probit.specs.Table.{RowsReached}
+use Rattle.terms.specs.Scales.{Scales}
+use Rattle.terms.specs.Terms.{seconds}
+use Rattle.terms.proofs.ScaleLaws.{lent-is-standard}
+use Rattle.vulnerability.specs.Effect.{effectBy}
 use Rattle.state.specs.declared.Branch.{Branch}
 use Rattle.model.specs.Verdict.{field}
 use Rattle.model.specs.Machine.{upTo, most32, store, rowOf, rowAfter}
-use Rattle.effects.specs.Judging.{judgedIn}
+use Rattle.effects.specs.Judging.{Judge, RightTables, judgedIn}
 use Rattle.effects.specs.Effects.{Figures, figures, afterEffect, afterEffects, sound}
 use Rattle.effects.specs.Steps.{Taking, nextIn}
+
+-- the right tables of the logarithm and of the probit are the right ones to judge by
+pub right-tables : (table near rows : List ℕ) → LogTables table near → RowsReached rows → RightTables table near rows
+right-tables table near rows t r = ap (λ (s : Scales). effectBy s seconds) (lent-is-standard table near rows t r)
 
 -- sixteen bytes have every field of an effect
 field-window : (l : List ℕ) (i n : ℕ) → i + n ≤ 16 → field (take 16 l) i n ≡ field l i n
@@ -22,9 +32,9 @@ unfolding field
 field-window l i zero h = refl
 field-window l i (suc n) h = rw (field-window l i n (omega arith), getD-take 16 l (i + n) 0 (omega arith)) refl
 
-pub effect-window : (b : Branch) (g : Figures) (l : List ℕ) → afterEffect b g (take 16 l) ≡ afterEffect b g l
+pub effect-window : (judge : Judge) (b : Branch) (g : Figures) (l : List ℕ) → afterEffect judge b g (take 16 l) ≡ afterEffect judge b g l
 unfolding afterEffect
-effect-window b g l = rw (field-window l 1 2 (omega arith), field-window l 3 4 (omega arith), field-window l 7 2 (omega arith)) refl
+effect-window judge b g l = rw (field-window l 1 2 (omega arith), field-window l 3 4 (omega arith), field-window l 7 2 (omega arith)) refl
 
 pub sound-window : (targets kind next : ℕ) (l : List ℕ) → sound targets kind next (take 16 l) ≡ sound targets kind next l
 unfolding sound
@@ -32,23 +42,23 @@ sound-window targets kind next l =
     rw (getD-take 16 l 0 0 (omega arith), field-window l 1 2 (omega arith), field-window l 3 4 (omega arith), field-window l 7 2 (omega arith)) refl
 
 -- no effect, and one more
-pub effects-none : (b : Branch) (g : Figures) (l : List ℕ) → g ≡ afterEffects b g l 0
+pub effects-none : (judge : Judge) (b : Branch) (g : Figures) (l : List ℕ) → g ≡ afterEffects judge b g l 0
 unfolding afterEffects
-effects-none b g l = refl
+effects-none judge b g l = refl
 
-pub effects-more : (b : Branch) (g h : Figures) (l : List ℕ) (n : ℕ) → h ≡ afterEffects b g l n → afterEffect b h (drop (n * 9) l) ≡ afterEffects b g l (n + 1)
+pub effects-more : (judge : Judge) (b : Branch) (g h : Figures) (l : List ℕ) (n : ℕ) → h ≡ afterEffects judge b g l n → afterEffect judge b h (drop (n * 9) l) ≡ afterEffects judge b g l (n + 1)
 unfolding afterEffects
-effects-more b g h l n e = rw (add-one, e) refl
+effects-more judge b g h l n e = rw (add-one, e) refl
 
 -- an effect's parts, one by one
-effect-parts : (b : Branch) (g : Figures) (p s m f : List ℕ) (x u : ℕ) (j : Bool) → x ≡ field p 1 2 + 1 → u ≡ upTo most32 (g .unjudged) (pick j 0 1)
-    → j ≡ judgedIn (g .facts) (b .kind) p .judged
-    → s ≡ store 256 (g .sums) (field p 1 2) (rowAfter (rowOf (g .sums) (g .margins) (g .facts) (field p 1 2)) b (judgedIn (g .facts) (b .kind) p .chance) .sum)
-    → m ≡ store 256 (g .margins) (field p 1 2) (rowAfter (rowOf (g .sums) (g .margins) (g .facts) (field p 1 2)) b (judgedIn (g .facts) (b .kind) p .chance) .margin)
-    → f ≡ store 256 (g .facts) (field p 1 2) (rowAfter (rowOf (g .sums) (g .margins) (g .facts) (field p 1 2)) b (judgedIn (g .facts) (b .kind) p .chance) .facts)
-    → figures x u s m f ≡ afterEffect b g p
+effect-parts : (judge : Judge) (b : Branch) (g : Figures) (p s m f : List ℕ) (x u : ℕ) (j : Bool) → x ≡ field p 1 2 + 1 → u ≡ upTo most32 (g .unjudged) (pick j 0 1)
+    → j ≡ judgedIn judge (g .facts) (b .kind) p .judged
+    → s ≡ store 256 (g .sums) (field p 1 2) (rowAfter (rowOf (g .sums) (g .margins) (g .facts) (field p 1 2)) b (judgedIn judge (g .facts) (b .kind) p .chance) .sum)
+    → m ≡ store 256 (g .margins) (field p 1 2) (rowAfter (rowOf (g .sums) (g .margins) (g .facts) (field p 1 2)) b (judgedIn judge (g .facts) (b .kind) p .chance) .margin)
+    → f ≡ store 256 (g .facts) (field p 1 2) (rowAfter (rowOf (g .sums) (g .margins) (g .facts) (field p 1 2)) b (judgedIn judge (g .facts) (b .kind) p .chance) .facts)
+    → figures x u s m f ≡ afterEffect judge b g p
 unfolding afterEffect
-effect-parts b g p s m f x u j ex eu ej es em ef = rw (ex, eu, ej, es, em, ef) refl
+effect-parts judge b g p s m f x u j ex eu ej es em ef = rw (ex, eu, ej, es, em, ef) refl
 
 -- the bytes that an effect is read in
 abbrev pub window : List ℕ → ℕ → List ℕ
@@ -58,20 +68,20 @@ window-is : (l : List ℕ) (i : ℕ) → window l i ≡ take 16 (drop i l)
 window-is l i = let e : i + 16 - i ≡ 16 = omega arith in rw e refl
 
 -- one effect more, read in its window
-pub effects-next : (b : Branch) (g h k : Figures) (l : List ℕ) (n : ℕ) → h ≡ afterEffects b g l n → k ≡ afterEffect b h (window l (n * 9)) → k ≡ afterEffects b g l (n + 1)
-effects-next b g h k l n e f =
-    (rw (window-is l (n * 9)) at f) ∙ effect-window b h (drop (n * 9) l) ∙ effects-more b g h l n e
+pub effects-next : (judge : Judge) (b : Branch) (g h k : Figures) (l : List ℕ) (n : ℕ) → h ≡ afterEffects judge b g l n → k ≡ afterEffect judge b h (window l (n * 9)) → k ≡ afterEffects judge b g l (n + 1)
+effects-next judge b g h k l n e f =
+    (rw (window-is l (n * 9)) at f) ∙ effect-window judge b h (drop (n * 9) l) ∙ effects-more judge b g h l n e
 
 pub sound-at : (targets kind next : ℕ) (l : List ℕ) (i : ℕ) → sound targets kind next (window l i) ≡ sound targets kind next (drop i l)
 sound-at targets kind next l i = ap (sound targets kind next) (window-is l i) ∙ sound-window targets kind next (drop i l)
 
 -- what holds of the first n effects and of the one after them holds of the first n + 1
-pub sound-more : (targets : ℕ) (b : Branch) (g : Figures) (l : List ℕ) (n : ℕ) → ((i : ℕ) → i < n → sound targets (b .kind) (afterEffects b g l i .next) (drop (i * 9) l) ≡ true)
-    → sound targets (b .kind) (afterEffects b g l n .next) (drop (n * 9) l) ≡ true
-    → (i : ℕ) → i < n + 1 → sound targets (b .kind) (afterEffects b g l i .next) (drop (i * 9) l) ≡ true
-sound-more targets b g l n h e i w = go (ℕ-discrete i n)
+pub sound-more : (judge : Judge) (targets : ℕ) (b : Branch) (g : Figures) (l : List ℕ) (n : ℕ) → ((i : ℕ) → i < n → sound targets (b .kind) (afterEffects judge b g l i .next) (drop (i * 9) l) ≡ true)
+    → sound targets (b .kind) (afterEffects judge b g l n .next) (drop (n * 9) l) ≡ true
+    → (i : ℕ) → i < n + 1 → sound targets (b .kind) (afterEffects judge b g l i .next) (drop (i * 9) l) ≡ true
+sound-more judge targets b g l n h e i w = go (ℕ-discrete i n)
   where
-    go : Dec (i ≡ n) → sound targets (b .kind) (afterEffects b g l i .next) (drop (i * 9) l) ≡ true
+    go : Dec (i ≡ n) → sound targets (b .kind) (afterEffects judge b g l i .next) (drop (i * 9) l) ≡ true
     go (yes q) = rw q e
     go (no q) = h i (omega arith)
 
@@ -96,11 +106,11 @@ module _ (targets : ℕ) (b : Branch) (x : ℕ) (p : List ℕ) (r : ℕ) (next :
   step-unsound z = step-unknown (sound targets (b .kind) x p) r (field p 1 2) next z
 
   -- what it leaves
-  pub step-parts : {s m f s' m' f' : List ℕ} {missed : ℕ} (u v : ℕ) → (r ≡ 0 → ⊥) → v ≡ upTo most32 u missed → Taking targets b x p s m f missed s' m' f' → figures r v s' m' f' ≡ afterEffect b (figures x u s m f) p
+  pub step-parts : {judge : Judge} {s m f s' m' f' : List ℕ} {missed : ℕ} (u v : ℕ) → (r ≡ 0 → ⊥) → v ≡ upTo most32 u missed → Taking judge targets b x p s m f missed s' m' f' → figures r v s' m' f' ≡ afterEffect judge b (figures x u s m f) p
   step-parts u v n e t =
       let a = t .taken (step-sound n) in
       let z : r ≡ field p 1 2 + 1 = next ∙ ap (λ (y : Bool). pick y (field p 1 2 + 1) 0) (step-sound n) in
-      effect-parts b (figures x u _ _ _) p _ _ _ r v _ z (e ∙ ap (upTo most32 u) (a .judging)) refl (a .sums) (a .margins) (a .facts)
+      effect-parts _ b (figures x u _ _ _) p _ _ _ r v _ z (e ∙ ap (upTo most32 u) (a .judging)) refl (a .sums) (a .margins) (a .facts)
 
-  pub step-left : {s m f s' m' f' : List ℕ} {missed : ℕ} (u : ℕ) → r ≡ 0 → Taking targets b x p s m f missed s' m' f' → figures x u s' m' f' ≡ figures x u s m f
+  pub step-left : {judge : Judge} {s m f s' m' f' : List ℕ} {missed : ℕ} (u : ℕ) → r ≡ 0 → Taking judge targets b x p s m f missed s' m' f' → figures x u s' m' f' ≡ figures x u s m f
   step-left u z t = let a = t .left (step-unsound z) in rw (a .0, a .1, a .2) refl

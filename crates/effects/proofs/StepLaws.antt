@@ -12,9 +12,10 @@ use Rattle.numeric.proofs.ChoiceLaws.{eq-case, ne-case, lt-case, ge-case, eq-el
 use Rattle.state.specs.declared.Branch.{Branch}
 use Rattle.model.specs.Faults.{namingFault, effectFault}
 use Rattle.model.specs.Verdict.{field}
+use Rattle.effects.specs.Judging.{Judge}
 use Rattle.effects.specs.Effects.{sound}
 use Rattle.effects.specs.Steps.{Added, Taking, nextIn}
-use Rattle.effects.proofs.RowLaws.{past-added}
+use Rattle.effects.proofs.RowLaws.{JudgesPeople, past-added}
 
 no-three : {A : Type 0} → _≡_ {A = ℕ} 3 0 → A
 no-three e = let z : ⊥ = omega arith in absurd z
@@ -81,17 +82,17 @@ module _ {targets limit : ℕ} (b : Branch) (x : ℕ) {p : List ℕ} {t q d : �
   pub next-row : effectFault limit (b .kind) x t q d ≡ 0 → t + 1 ≡ nextIn targets b x p
   next-row e = rw (sound-is (within e .0), r .target) refl
 
-  pub taking-row : {s m f s' m' f' : List ℕ} {missed : ℕ} → effectFault limit (b .kind) x t q d ≡ 0 → Added b t q d s m f missed s' m' f' → Taking targets b x p s m f missed s' m' f'
+  pub taking-row : {judge : Judge} {s m f s' m' f' : List ℕ} {missed : ℕ} → effectFault limit (b .kind) x t q d ≡ 0 → Added judge b t q d s m f missed s' m' f' → Taking judge targets b x p s m f missed s' m' f'
   taking-row e a = record { taken = λ h. rw (← r .target, ← r .intensity, ← r .duration) a; left = λ h. no-false (sym h ∙ sound-is (within e .0)) }
 
   -- on one that has none
   pub next-past : (n : ℕ) → n ≡ ifEq (effectFault targets (b .kind) x t q d) 0 (t + 1) 0 → n ≡ nextIn targets b x p
   next-past n e = e ∙ chosen (effectFault targets (b .kind) x t q d) (t + 1) ∙ rw (sound-by, ← r .target) refl
 
-  pub taking-past : {s m f : List ℕ} {missed : ℕ} → (effectFault limit (b .kind) x t q d ≡ 0 → ⊥) → missed ≡ 0 → Taking targets b x p s m f missed s m f
-  taking-past {s} {m} {f} {missed} n z =
+  pub taking-past : {judge : Judge} {s m f : List ℕ} {missed : ℕ} → JudgesPeople judge → (effectFault limit (b .kind) x t q d ≡ 0 → ⊥) → missed ≡ 0 → Taking judge targets b x p s m f missed s m f
+  taking-past {judge} {s} {m} {f} {missed} judges n z =
       record {
-        taken = λ h. rw (← r .target, ← r .intensity, ← r .duration, z) (past-added b t q d s m f (beyond (fault-is h) (decLe 256 t)));
+        taken = λ h. rw (← r .target, ← r .intensity, ← r .duration, z) (past-added judge judges b t q d s m f (beyond (fault-is h) (decLe 256 t)));
         left = λ h. (refl, refl, refl);
       }
     where
@@ -108,5 +109,5 @@ module _ (targets : ℕ) (b : Branch) (x : ℕ) (p : List ℕ) (other : getD p 0
   pub next-none : 0 ≡ nextIn targets b x p
   next-none = rw unsound refl
 
-  pub taking-none : {s m f : List ℕ} {missed : ℕ} → Taking targets b x p s m f missed s m f
+  pub taking-none : {judge : Judge} {s m f : List ℕ} {missed : ℕ} → Taking judge targets b x p s m f missed s m f
   taking-none = record { taken = λ h. no-false (sym unsound ∙ h); left = λ h. (refl, refl, refl) }

@@ -7,19 +7,19 @@ use Rattle.numeric.specs.Choice.{pick}
 use Rattle.state.specs.declared.Branch.{Branch}
 use Rattle.model.specs.Verdict.{field}
 use Rattle.model.specs.Machine.{store, rowOf, rowAfter}
-use Rattle.effects.specs.Judging.{effectAt}
+use Rattle.effects.specs.Judging.{Judge, effectAt}
 use Rattle.effects.specs.Effects.{sound}
 
 -- an effect on target i: the figures before it, 1 where no rule judged it, and the figures after it
-pub record Added (b : Branch) (i q d : ℕ) (s m f : List ℕ) (missed : ℕ) (s' m' f' : List ℕ) : Type 0 where
-  pub judging : missed ≡ pick (effectAt f (b .kind) i q d .judged) 0 1
-  pub sums : s' ≡ store 256 s i (rowAfter (rowOf s m f i) b (effectAt f (b .kind) i q d .chance) .sum)
-  pub margins : m' ≡ store 256 m i (rowAfter (rowOf s m f i) b (effectAt f (b .kind) i q d .chance) .margin)
-  pub facts : f' ≡ store 256 f i (rowAfter (rowOf s m f i) b (effectAt f (b .kind) i q d .chance) .facts)
+pub record Added (judge : Judge) (b : Branch) (i q d : ℕ) (s m f : List ℕ) (missed : ℕ) (s' m' f' : List ℕ) : Type 0 where
+  pub judging : missed ≡ pick (effectAt judge f (b .kind) i q d .judged) 0 1
+  pub sums : s' ≡ store 256 s i (rowAfter (rowOf s m f i) b (effectAt judge f (b .kind) i q d .chance) .sum)
+  pub margins : m' ≡ store 256 m i (rowAfter (rowOf s m f i) b (effectAt judge f (b .kind) i q d .chance) .margin)
+  pub facts : f' ≡ store 256 f i (rowAfter (rowOf s m f i) b (effectAt judge f (b .kind) i q d .chance) .facts)
 
 -- the effect that some bytes begin with, where the next one may name a target from x on: it is taken, or it has a fault and all stays
-pub record Taking (targets : ℕ) (b : Branch) (x : ℕ) (p s m f : List ℕ) (missed : ℕ) (s' m' f' : List ℕ) : Type 0 where
-  pub taken : sound targets (b .kind) x p ≡ true → Added b (field p 1 2) (field p 3 4) (field p 7 2) s m f missed s' m' f'
+pub record Taking (judge : Judge) (targets : ℕ) (b : Branch) (x : ℕ) (p s m f : List ℕ) (missed : ℕ) (s' m' f' : List ℕ) : Type 0 where
+  pub taken : sound targets (b .kind) x p ≡ true → Added judge b (field p 1 2) (field p 3 4) (field p 7 2) s m f missed s' m' f'
   pub left : sound targets (b .kind) x p ≡ false → (s' ≡ s) × (m' ≡ m) × (f' ≡ f)
 
 -- the least target that may follow; 0 where the effect is not taken

@@ -2,16 +2,17 @@
 ghost use mathlib.Core.Path.{_≡_};
 ghost use mathlib.Core.Bool.{true, false};
 ghost use mathlib.Core.Logic.{_⊎_};
-ghost use Prim.Native.Nat.{ℕ, _+_, _-_, _*_, _/_, _<_, _≤_, min};
-ghost use lib.ListN.{length, getD, drop};
-ghost use Rattle.log2.specs.Logarithm.{LogTables};
-ghost use Rattle.probit.specs.Table.{RowsReached};
-ghost use Rattle.terms.specs.Terms.{fireball, flashFire};
+ghost use Prim.Native.Nat.{_+_, _-_, _/_, _<_, _≤_, min};
+ghost use lib.ListN.{length, getD};
+ghost use Rattle.terms.specs.Scales.{Scales};
+ghost use Rattle.terms.specs.Terms.{fireball, flashFire, seconds};
+ghost use Rattle.vulnerability.specs.Effect.{effectBy};
 ghost use Rattle.numeric.specs.Choice.{ifEq};
 ghost use Rattle.model.specs.Faults.{effectFault};
 ghost use Rattle.model.specs.Machine.{upTo, most32, most64, store, markedFacts};
 ghost use Rattle.numeric.specs.Share.{shareOf};
-ghost use Rattle.effects.specs.Effects.{figures, afterEffects, sound};
+ghost use Rattle.effects.specs.Judging.{byTables};
+ghost use Rattle.effects.specs.Effects.{figures, afterEffects, takenOf};
 ghost use Rattle.effects.specs.Steps.{Added, Taking, nextIn};
 use state::Branch;
 
@@ -128,7 +129,7 @@ fn fire_row(
     facts: &mut [u64; 256],
 ) -> u64
     requires { ⌜ (i < 256) × (b .kind ≤ fireball) ⌝ }
-    ensures { λ r. ⌜ (LogTables (now (table .entry)) (now (near .entry)) → RowsReached (now (rows .entry)) → Added b i q d (now (sums .entry)) (now (margins .entry)) (now (facts .entry)) r (now (sums .exit)) (now (margins .exit)) (now (facts .exit))) ⌝ }
+    ensures { λ r. ⌜ Added (byTables (now (table .entry)) (now (near .entry)) (now (rows .entry))) b i q d (now (sums .entry)) (now (margins .entry)) (now (facts .entry)) r (now (sums .exit)) (now (margins .exit)) (now (facts .exit)) ⌝ }
     ensures { λ r. ⌜ r ≤ 1 ⌝ }
 {
     add_margin(b, i, margins);
@@ -157,7 +158,7 @@ fn flash_row(
     facts: &mut [u64; 256],
 )
     requires { ⌜ (i < 256) × (b .kind ≡ flashFire) ⌝ }
-    ensures { λ _. ⌜ Added b i q d (now (sums .entry)) (now (margins .entry)) (now (facts .entry)) 0 (now (sums .exit)) (now (margins .exit)) (now (facts .exit)) ⌝ }
+    ensures { λ _. ⌜ ((s : Scales) → Added (effectBy s seconds) b i q d (now (sums .entry)) (now (margins .entry)) (now (facts .entry)) 0 (now (sums .exit)) (now (margins .exit)) (now (facts .exit))) ⌝ }
 {
     add_margin(b, i, margins);
     let known = facts[i];
@@ -183,7 +184,7 @@ fn blast_row(
     facts: &mut [u64; 256],
 )
     requires { ⌜ (i < 256) × (flashFire < b .kind) ⌝ }
-    ensures { λ _. ⌜ (LogTables (now (table .entry)) (now (near .entry)) → RowsReached (now (rows .entry)) → Added b i q d (now (sums .entry)) (now (margins .entry)) (now (facts .entry)) 0 (now (sums .exit)) (now (margins .exit)) (now (facts .exit))) ⌝ }
+    ensures { λ _. ⌜ Added (byTables (now (table .entry)) (now (near .entry)) (now (rows .entry))) b i q d (now (sums .entry)) (now (margins .entry)) (now (facts .entry)) 0 (now (sums .exit)) (now (margins .exit)) (now (facts .exit)) ⌝ }
 {
     add_margin(b, i, margins);
     let known = facts[i];
@@ -224,7 +225,7 @@ fn fire(
 ) -> Step
     requires { ⌜ (limit ≡ min targets 256) × (getD (now p) 0 0 ≡ 6) × (b .kind ≤ fireball) ⌝ }
     ensures { λ r. ⌜ (r .next ≡ nextIn targets b next (now (p .entry))) × (r .missed ≤ 1) ⌝ }
-    ensures { λ r. ⌜ (LogTables (now (table .entry)) (now (near .entry)) → RowsReached (now (rows .entry)) → Taking targets b next (now (p .entry)) (now (sums .entry)) (now (margins .entry)) (now (facts .entry)) (r .missed) (now (sums .exit)) (now (margins .exit)) (now (facts .exit))) ⌝ }
+    ensures { λ r. ⌜ Taking (byTables (now (table .entry)) (now (near .entry)) (now (rows .entry))) targets b next (now (p .entry)) (now (sums .entry)) (now (margins .entry)) (now (facts .entry)) (r .missed) (now (sums .exit)) (now (margins .exit)) (now (facts .exit)) ⌝ }
 {
     let t = decoding::half_at_1(p);
     let q = decoding::word_at_3(p);
@@ -251,7 +252,7 @@ fn flash(
 ) -> Step
     requires { ⌜ (limit ≡ min targets 256) × (getD (now p) 0 0 ≡ 6) × (b .kind ≡ flashFire) ⌝ }
     ensures { λ r. ⌜ (r .next ≡ nextIn targets b next (now (p .entry))) × (r .missed ≤ 1) ⌝ }
-    ensures { λ r. ⌜ (Taking targets b next (now (p .entry)) (now (sums .entry)) (now (margins .entry)) (now (facts .entry)) (r .missed) (now (sums .exit)) (now (margins .exit)) (now (facts .exit))) ⌝ }
+    ensures { λ r. ⌜ ((s : Scales) → Taking (effectBy s seconds) targets b next (now (p .entry)) (now (sums .entry)) (now (margins .entry)) (now (facts .entry)) (r .missed) (now (sums .exit)) (now (margins .exit)) (now (facts .exit))) ⌝ }
 {
     let t = decoding::half_at_1(p);
     let q = decoding::word_at_3(p);
@@ -281,7 +282,7 @@ fn blast(
 ) -> Step
     requires { ⌜ (limit ≡ min targets 256) × (getD (now p) 0 0 ≡ 6) × (flashFire < b .kind) ⌝ }
     ensures { λ r. ⌜ (r .next ≡ nextIn targets b next (now (p .entry))) × (r .missed ≤ 1) ⌝ }
-    ensures { λ r. ⌜ (LogTables (now (table .entry)) (now (near .entry)) → RowsReached (now (rows .entry)) → Taking targets b next (now (p .entry)) (now (sums .entry)) (now (margins .entry)) (now (facts .entry)) (r .missed) (now (sums .exit)) (now (margins .exit)) (now (facts .exit))) ⌝ }
+    ensures { λ r. ⌜ Taking (byTables (now (table .entry)) (now (near .entry)) (now (rows .entry))) targets b next (now (p .entry)) (now (sums .entry)) (now (margins .entry)) (now (facts .entry)) (r .missed) (now (sums .exit)) (now (margins .exit)) (now (facts .exit)) ⌝ }
 {
     let t = decoding::half_at_1(p);
     let q = decoding::word_at_3(p);
@@ -312,7 +313,7 @@ fn take_one(
 ) -> Step
     requires { ⌜ (limit ≡ min targets 256) ⌝ }
     ensures { λ r. ⌜ (r .next ≡ nextIn targets b next (now (p .entry))) × (r .missed ≤ 1) ⌝ }
-    ensures { λ r. ⌜ (LogTables (now (table .entry)) (now (near .entry)) → RowsReached (now (rows .entry)) → Taking targets b next (now (p .entry)) (now (sums .entry)) (now (margins .entry)) (now (facts .entry)) (r .missed) (now (sums .exit)) (now (margins .exit)) (now (facts .exit))) ⌝ }
+    ensures { λ r. ⌜ Taking (byTables (now (table .entry)) (now (near .entry)) (now (rows .entry))) targets b next (now (p .entry)) (now (sums .entry)) (now (margins .entry)) (now (facts .entry)) (r .missed) (now (sums .exit)) (now (margins .exit)) (now (facts .exit)) ⌝ }
 {
     if decoding::kind(p) == 6 {
         if b.kind <= 3 {
@@ -372,10 +373,8 @@ pub fn take_effects(
     margins: &mut [u32; 256],
     facts: &mut [u64; 256],
 ) -> Taken
-    ensures { λ r. ⌜ r .count ≤ min most ((length (now (bytes .entry)) - 7) / 9) ⌝ }
-    ensures { λ r. ⌜ (LogTables (now (table .entry)) (now (near .entry)) → RowsReached (now (rows .entry)) → figures (r .next) (r .unjudged) (now (sums .exit)) (now (margins .exit)) (now (facts .exit)) ≡ afterEffects b (figures (b .next) before (now (sums .entry)) (now (margins .entry)) (now (facts .entry))) (now (bytes .entry)) (r .count)) ⌝ }
-    ensures { λ r. ⌜ (LogTables (now (table .entry)) (now (near .entry)) → RowsReached (now (rows .entry)) → (i : ℕ) → i < r .count → sound targets (b .kind) (afterEffects b (figures (b .next) before (now (sums .entry)) (now (margins .entry)) (now (facts .entry))) (now (bytes .entry)) i .next) (drop (i * 9) (now (bytes .entry))) ≡ true) ⌝ }
-    ensures { λ r. ⌜ (r .count < min most ((length (now (bytes .entry)) - 7) / 9) → sound targets (b .kind) (r .next) (drop (r .count * 9) (now (bytes .entry))) ≡ false) ⌝ }
+    ensures { λ r. ⌜ r .count ≡ takenOf (byTables (now (table .entry)) (now (near .entry)) (now (rows .entry))) targets b (figures (b .next) before (now (sums .entry)) (now (margins .entry)) (now (facts .entry))) (now (bytes .entry)) (min most ((length (now (bytes .entry)) - 7) / 9)) ⌝ }
+    ensures { λ r. ⌜ figures (r .next) (r .unjudged) (now (sums .exit)) (now (margins .exit)) (now (facts .exit)) ≡ afterEffects (byTables (now (table .entry)) (now (near .entry)) (now (rows .entry))) b (figures (b .next) before (now (sums .entry)) (now (margins .entry)) (now (facts .entry))) (now (bytes .entry)) (r .count) ⌝ }
 {
     let top = reach(most, bytes.len());
     let limit = with_row(targets);

@@ -1,10 +1,10 @@
 // The chance of damage to equipment. The caller lends the tables: the logarithm's thresholds and near steps, and the probit's rows.
 ghost use mathlib.Core.Path.{_≡_};
 ghost use Prim.Native.Nat.{_+_, _*_, _/_, _^_, _<_};
-ghost use Rattle.log2.specs.Logarithm.{logarithm, LogTables};
-ghost use Rattle.probit.specs.Table.{RowsReached};
-ghost use Rattle.probit.specs.Chance.{chanceOf};
-ghost use Rattle.equipment.specs.Damage.{blastRowOf, blastProbit, blastDamage, heatProbit, heatDamage};
+ghost use Rattle.log2.specs.Logarithm.{logBy};
+ghost use Rattle.probit.specs.Chance.{chanceBy};
+ghost use Rattle.terms.specs.Scales.{lent};
+ghost use Rattle.equipment.specs.Damage.{blastRowOf, blastProbitBy, blastDamageBy, heatProbitBy, heatDamageBy};
 
 // A row of table D.2 for explosions: what the probit takes off, its factor in hundredths, and the threshold in Pa.
 pub struct BlastRow {
@@ -48,7 +48,7 @@ fn blast_row(class: u8) -> BlastRow
 // factor × L(n) × 693,147 / divisor, rounded down: the logarithm's part of a probit. It is below 2^55 with any tables.
 fn scaled_log(table: &[u32; 256], near: &[u8; 512], factor: u64, n: u32, divisor: u64) -> u64
     requires { ⌜ (factor < 2 ^ 22) × (0 < divisor) ⌝ }
-    ensures { λ r. ⌜ (LogTables (now (table .entry)) (now (near .entry)) → r ≡ factor * logarithm n * 693147 / divisor) ⌝ }
+    ensures { λ r. ⌜ r ≡ factor * logBy (now (table .entry)) (now (near .entry)) n * 693147 / divisor ⌝ }
     ensures { λ r. ⌜ r < 2 ^ 55 ⌝ }
 {
     let log = log2::log256(table, near, n) as u64;
@@ -63,7 +63,7 @@ fn blast_chance(
     row: BlastRow,
     pa: u32,
 ) -> u32
-    ensures { λ r. ⌜ (LogTables (now (table .entry)) (now (near .entry)) → RowsReached (now (rows .entry)) → r ≡ chanceOf (blastProbit row pa)) ⌝ }
+    ensures { λ r. ⌜ r ≡ chanceBy (now (rows .entry)) (blastProbitBy (lent (now (table .entry)) (now (near .entry)) (now (rows .entry))) row pa) ⌝ }
 {
     let log = scaled_log(table, near, row.factor as u64, pa, 25_600);
     probit::chance(rows, log, row.constant)
@@ -71,7 +71,7 @@ fn blast_chance(
 
 // Explosion: overpressure in Pa on equipment of a class.
 pub fn blast(table: &[u32; 256], near: &[u8; 512], rows: &[u32; 544], class: u8, pa: u32) -> u32
-    ensures { λ r. ⌜ (LogTables (now (table .entry)) (now (near .entry)) → RowsReached (now (rows .entry)) → r ≡ blastDamage (blastRowOf class) pa) ⌝ }
+    ensures { λ r. ⌜ r ≡ blastDamageBy (lent (now (table .entry)) (now (near .entry)) (now (rows .entry))) (blastRowOf class) pa ⌝ }
 {
     let row = blast_row(class);
     if pa < row.threshold {
@@ -82,7 +82,7 @@ pub fn blast(table: &[u32; 256], near: &[u8; 512], rows: &[u32; 544], class: u8,
 
 // The chance by the probit of a fire.
 fn heat_chance(table: &[u32; 256], near: &[u8; 512], rows: &[u32; 544], q: u32, volume: u32) -> u32
-    ensures { λ r. ⌜ (LogTables (now (table .entry)) (now (near .entry)) → RowsReached (now (rows .entry)) → r ≡ chanceOf (heatProbit q volume)) ⌝ }
+    ensures { λ r. ⌜ r ≡ chanceBy (now (rows .entry)) (heatProbitBy (lent (now (table .entry)) (now (near .entry)) (now (rows .entry))) q volume) ⌝ }
 {
     let heat = scaled_log(table, near, 2_083_416, q, 256_000_000);
     let size = 4_925_949 * (volume as u64) / 100_000;
@@ -99,7 +99,7 @@ pub fn heat(
     q: u32,
     duration: u16,
 ) -> u32
-    ensures { λ r. ⌜ (LogTables (now (table .entry)) (now (near .entry)) → RowsReached (now (rows .entry)) → r ≡ heatDamage limit volume q duration) ⌝ }
+    ensures { λ r. ⌜ r ≡ heatDamageBy (lent (now (table .entry)) (now (near .entry)) (now (rows .entry))) limit volume q duration ⌝ }
 {
     if 15_000 < q {
         if limit < duration {

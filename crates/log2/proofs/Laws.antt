@@ -100,6 +100,14 @@ pub logarithm-small : (n : ℕ) → n < 2 → logarithm n ≡ 0
 logarithm-small zero h = logarithm-of-zero
 logarithm-small (suc n) h = let e : suc n ≡ 1 = omega arith in rw e (log-is 1 0 (omega arith) (omega arith) (omega arith))
 
+-- above 32 bits every logarithm is the greatest
+pub logarithm-large : (n : ℕ) → 2 ^ 32 ≤ n → logarithm n ≡ 8191
+unfolding logarithm
+logarithm-large n h =
+    let a : (2 ^ 32) ^ 256 ≤ n ^ 256 = pow-le-pow-left h 256 in
+    let b : 2 ^ 8191 ≤ n ^ 256 = le-trans (pow-mono {i = 8191} {j = 8192} (omega arith)) a in
+    omega (arith, greatest-le (reached n) 8191, greatest-above (reached n) 8191 8191 (omega arith) (le-leb _ _ b))
+
 mul-pow : (a b k : ℕ) → (a * b) ^ k ≡ a ^ k * b ^ k
 mul-pow a b zero = simp (pow-zero, mul-one)
 mul-pow a b (suc k) =

@@ -2,10 +2,12 @@
 use mathlib.Core.Path.{_≡_}
 use mathlib.Core.Logic.{_↔_}
 use mathlib.Core.Bool.{Bool, true, false}
-use Prim.Native.Nat.{ℕ, zero, suc, _+_, _-_, _*_, _^_, _<_, _≤_}
+use Prim.Native.Nat.{ℕ, zero, suc, _+_, _-_, _*_, _/_, _%_, _^_, _<_, _≤_}
 use mathlib.Core.List.{List}
 use lib.Dec.{leb}
 use lib.ListN.{getD}
+use lib.Count.{leadingZeros}
+use Rattle.numeric.specs.Choice.{ifLt}
 
 -- the greatest number up to a bound at which a test holds, and 0 where there is none
 unfoldable pub greatest : (ℕ → Bool) → ℕ → ℕ
@@ -53,3 +55,16 @@ NearSteps l = (b : ℕ) → b < 512 → NearStep b (getD l b 0)
 pub record LogTables (t n : List ℕ) : Type 0 where
   pub thresholds : Thresholds t
   pub near : NearSteps n
+
+-- What two lent tables give for a mantissa whose octave begins at a step: the near step of its nine bits, and one less where the mantissa is
+-- below the threshold there.
+unfoldable pub stepBy : List ℕ → List ℕ → ℕ → ℕ → ℕ
+stepBy t n octave m = octave + getD n (m / 2 ^ 22 % 512) 0 - ifLt m (getD t (getD n (m / 2 ^ 22 % 512) 0) 0) 1 0
+
+-- What they give for a number: the step of its mantissa. Above 32 bits, where no mantissa is, it is the greatest, as in `logarithm`.
+unfoldable pub logBy : List ℕ → List ℕ → ℕ → ℕ
+logBy t n x = ifLt x 2 0 (ifLt x (2 ^ 32) (stepBy t n ((31 - leadingZeros 32 x) * 256) (x * 2 ^ leadingZeros 32 x)) 8191)
+
+-- with the right tables this is L
+abbrev pub LogByTables : Type 0
+LogByTables = (t n : List ℕ) → LogTables t n → (x : ℕ) → logBy t n x ≡ logarithm x

@@ -1,7 +1,8 @@
 // The logarithm to base 2 in steps of a 256th (document 01's L), by a table of thresholds and a table of near steps.
 ghost use mathlib.Core.Path.{_≡_};
 ghost use Prim.Native.Nat.{_≤_, _/_, _%_, _^_};
-ghost use Rattle.log2.specs.Logarithm.{logarithm, Thresholds, NearStep, NearSteps, LogTables};
+ghost use lib.ListN.{getD};
+ghost use Rattle.log2.specs.Logarithm.{logarithm, Thresholds, NearSteps, logBy};
 
 // For each step k of the octave from 2^31 on, the least mantissa whose 256th power reaches 2^(31 * 256 + k).
 const THRESHOLDS: [u32; 256] = [
@@ -795,15 +796,15 @@ pub fn near_steps() -> [u8; 512]
 
 // The greater of the two steps that a mantissa may lie at within its octave.
 fn near_step(near: &[u8; 512], mantissa: u32) -> u8
-    ensures { λ r. ⌜ (NearSteps (now (near .entry)) → NearStep (mantissa / 2 ^ 22 % 512) r) ⌝ }
+    ensures { λ r. ⌜ r ≡ getD (now (near .entry)) (mantissa / 2 ^ 22 % 512) 0 ⌝ }
 {
     let entry = &near[((mantissa / 4_194_304) % 512) as usize];
     *entry
 }
 
-// L(n), for every n, where the tables are the thresholds and the near steps; L(0) is 0. With any tables it is at most 8191.
+// What lent tables give for n: L(n), where they are the thresholds and the near steps. With any tables it is at most 8191.
 pub fn log256(table: &[u32; 256], near: &[u8; 512], n: u32) -> u32
-    ensures { λ r. ⌜ (LogTables (now (table .entry)) (now (near .entry)) → r ≡ logarithm n) ⌝ }
+    ensures { λ r. ⌜ r ≡ logBy (now (table .entry)) (now (near .entry)) n ⌝ }
     ensures within { λ r. ⌜ r ≤ 8191 ⌝ }
 {
     if n < 2 {
@@ -814,4 +815,13 @@ pub fn log256(table: &[u32; 256], near: &[u8; 512], n: u32) -> u32
     let g = near_step(near, mantissa);
     let less = if mantissa < table[g as usize] { 1 } else { 0 };
     (31 - zeros) * 256 + (g as u32) - less
+}
+
+// L(n), for every n; L(0) is 0. For many numbers take the tables once and lend them to `log256`.
+pub fn l(n: u32) -> u32
+    ensures { λ r. ⌜ r ≡ logarithm n ⌝ }
+{
+    let table = thresholds();
+    let near = near_steps();
+    log256(&table, &near, n)
 }

@@ -16,7 +16,7 @@ use Rattle.model.specs.Report.{dominoOf}
 use Rattle.model.specs.Faults.{Context, start, role, fault, contextAfter, contextAfterAll}
 use Rattle.model.specs.Verdict.{bodyLength, decode, cut, contentOf, Verdict, unclosed, closed, refused, judgeLeft, judge, verdict}
 use Rattle.model.specs.Calls.{Bytes, totalsOf, targetReportOf, noTarget}
-use Rattle.model.specs.Machine.{State, withReading, refusedWith, reading, begun, taken, core, ownFaultIn, faultIn, effectState, accepted, recordRead, cleared, step, readAll, fresh, totalsIn, targetIn, markedIn}
+use Rattle.model.specs.Machine.{State, withReading, refusedWith, reading, begun, taken, core, faultIn, effectState, accepted, recordRead, cleared, step, readAll, fresh, totalsIn, targetIn, markedIn}
 use Rattle.model.proofs.ListLaws.{each-append, each-parts}
 use Rattle.model.proofs.ContextLaws.{after-append}
 use Rattle.model.proofs.Accepts.{Accepts, Fits, WholeBytes}
@@ -87,7 +87,12 @@ cleared-data : (s : State) → dataOf (cleared s) ≡ dataOf s
 unfolding cleared
 cleared-data s = refl
 
-here-more : (s : State) (x : Context) (rs : List Record) (l : List ℕ) (r : Record) → Here s x rs → length l ≤ 13 → fault x r ≡ 0 → (role r ≡ 7 → ⊥) → Fits r
+-- what a record does to the data, read from its bytes
+pub data-read : (s : State) (l : List ℕ) (r : Record) → dataOf (afterRecord s l r) ≡ after (dataOf s) r
+data-read s l r =
+    cleared-data (accepted (partial s l) r) ∙ data-accepted (partial s l) r ∙ ap (λ (d : Data). after d r) (part-data s l)
+
+pub here-more : (s : State) (x : Context) (rs : List Record) (l : List ℕ) (r : Record) → Here s x rs → length l ≤ 13 → fault x r ≡ 0 → (role r ≡ 7 → ⊥) → Fits r
     → Here (afterRecord s l r) (contextAfter x r) (rs ++ (r ∷ []))
 here-more s x rs l r h w e n f =
     record {
@@ -96,22 +101,15 @@ here-more s x rs l r h w e n f =
       context = context-more start rs r ∙ ap (λ (y : Context). contextAfter y r) (h .context);
       fits = fits-more rs r (h .fits) f;
       figures =
-          cleared-data (accepted (partial s l) r)
-          ∙ data-accepted (partial s l) r
-          ∙ ap (λ (d : Data). after d r) (part-data s l ∙ h .figures)
+          data-read s l r
+          ∙ ap (λ (d : Data). after d r) (h .figures)
           ∙ sym (run-append (dataOf fresh) rs (r ∷ []) ∙ run-one (run (dataOf fresh) rs) r);
     }
 
 -- the fault does not depend on the pending bytes
 part-fault : (s : State) (l : List ℕ) (r : Record) → faultIn (partial s l .core) (partial s l .stack) r ≡ faultIn (s .core) (s .stack) r
-unfolding partial faultIn ownFaultIn
-part-fault s l (openingRec n) = refl
-part-fault s l (targetRec n t) = refl
-part-fault s l (leakRec n f) = refl
-part-fault s l (branchingRec b) = refl
-part-fault s l (outcomeRec k n) = refl
-part-fault s l (effectRec e) = refl
-part-fault s l (closingRec n t) = refl
+unfolding partial faultIn
+part-fault s l r = refl
 
 -- only a closing record has its role
 pub closing-role : (r : Record) → role r ≡ 7 → (n : ℕ) × (t : ℕ) × (r ≡ closingRec n t)
@@ -260,7 +258,7 @@ follows-fresh =
       leaks = omega arith;
     }
 
-here-fresh : Here fresh start []
+pub here-fresh : Here fresh start []
 unfolding contextAfterAll Accepts run
 here-fresh = record { follows = follows-fresh; accepts = tt; context = refl; fits = tt; figures = refl }
 

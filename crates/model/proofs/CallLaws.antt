@@ -152,7 +152,7 @@ piece-answer s t b before total v (closed p c) e r a g =
         rw (j, x) (piece-late before (length b) total p e (omega arith))
 
 module _ (closes : Closes) where
-  call-answer : (before : List ℕ) (c : Call) → Bytes before → Callable c → answerIn (readAll fresh before) c ≡ answer before c
+  pub call-answer : (before : List ℕ) (c : Call) → Bytes before → Callable c → answerIn (readAll fresh before) c ≡ answer before c
   unfolding answerIn answer Callable
   call-answer before (piece b) y z =
       let j = read-append fresh before b in

@@ -8,25 +8,23 @@ use native.Mathlib.Decide.{ℕ-discrete}
 use native.Mathlib.Omega.{arith}
 use lib.ListN.{length, length-append}
 use Rattle.numeric.specs.Choice.{ifEq}
-use Rattle.numeric.proofs.ChoiceLaws.{eq-case, ne-case, lt-case, eq-first}
+use Rattle.numeric.proofs.ChoiceLaws.{eq-case, ne-case, lt-case, eq-first, eq-elim}
 use Rattle.model.specs.Content.{Content}
 use Rattle.model.specs.Sums.{sumOver, joinOver}
 use Rattle.model.specs.Format.{Record, closingRec, encode, openRecords, countOf, leaksOf, recordsOf, bytesOf}
 use Rattle.model.specs.Valid.{Each, Valid}
-use Rattle.model.specs.Report.{sumAt, marginAt}
-use Rattle.model.specs.MeaningTheorems.{Within, Unnamed}
 use Rattle.model.specs.Faults.{Context, start, role, fault, contextAfter, contextAfterAll}
 use Rattle.model.specs.Verdict.{decode, cut, contentOf, Verdict, unclosed, closed, refused, judgeLeft, judge, verdict}
-use Rattle.model.specs.Calls.{Call, totals, target, gaveTotals, gaveTarget, totalsOf, targetReportOf, joinedAfter, joined, Bytes, Callable}
+use Rattle.model.specs.Calls.{Call, totals, target, gaveTotals, gaveTarget, totalsOf, targetReportOf, answer, joinedAfter, joined, Bytes, Callable}
 use Rattle.model.specs.Machine.{State, readAll, fresh, stateAfterAll, answerIn}
-use Rattle.model.specs.MachineTheorems.{Answers, ClosedFront, ClosedExactlyThen, ClosedContent, RefusalStays, ClosingStays, TotalsHold, Near, BothZero, TargetHolds, Demand3}
+use Rattle.model.specs.MachineTheorems.{Answers, ClosedFront, ClosedExactlyThen, ClosedContent, RefusalStays, ClosingStays, TotalsHold, TargetHolds, Demand3}
 use Rattle.model.proofs.ListLaws.{each-parts, join-append, join-one, each-join}
 use Rattle.model.proofs.Accepts.{Accepts, Fits, WholeBytes}
 use Rattle.model.proofs.CodecLaws.{decode-encode, encode-decode, decode-fits, encode-bytes}
 use Rattle.model.proofs.CutLaws.{cut-records, cut-joined, cut-each}
 use Rattle.model.proofs.ReadLaws.{read-append, read-stays}
 use Rattle.model.proofs.Agreement.{ClosedState, Agrees, closing-role, accepts-more, context-more, fits-more, bytes-each, fresh-agrees}
-use Rattle.model.proofs.CallLaws.{cuts-make-no-difference, all-answers, joined-bytes}
+use Rattle.model.proofs.CallLaws.{cuts-make-no-difference, call-answer, all-answers, joined-bytes}
 use Rattle.model.proofs.Complete.{content-accepted}
 use Rattle.model.proofs.Sound.{accepted-valid}
 use Rattle.model.proofs.ClosedLaws.{closes}
@@ -36,6 +34,10 @@ use Rattle.model.proofs.Margin.{sums-within-margin}
 -- Answers, with what a closing record closes
 pub answers-hold : Answers
 answers-hold = all-answers closes
+
+-- one call after bytes
+pub call-answered : (before : List ℕ) (c : Call) → Bytes before → Callable c → answerIn (readAll fresh before) c ≡ answer before c
+call-answered = call-answer closes
 
 -- ---- the bytes of a valid content close the study
 
@@ -141,12 +143,36 @@ accepts-none : Accepts start []
 unfolding Accepts
 accepts-none = tt
 
-verdict-front : (l : List ℕ) (p : ℕ) (c : Content) → Bytes l → verdict l ≡ closed p c → ClosedFront l
+pub verdict-front : (l : List ℕ) (p : ℕ) (c : Content) → Bytes l → verdict l ≡ closed p c → ClosedFront l
 unfolding verdict joinOver contextAfterAll
 verdict-front l p c y v =
     let j = cut-joined l in
     rw j at
     (front-of (cut l .whole) (cut l .left) start 0 [] p c accepts-none refl tt (cut-each l) (bytes-each (cut l .whole) (cut l .left) (rw j y)) v)
+
+-- the number of a refusal is none that a call is taken with
+left-number : (left : List ℕ) (place n p : ℕ) → judgeLeft place left ≡ refused n p → n ≡ 0 → ⊥
+unfolding judgeLeft
+left-number [] place n p j z = let y : _≡_ {A = ℕ} 0 1 = cc in omega arith
+left-number (k ∷ l) place n p j z =
+    eq-elim j
+    (λ e q. let y : _≡_ {A = ℕ} 1 n = cc in omega arith)
+    (λ e q. let y : _≡_ {A = ℕ} 0 1 = cc in omega arith)
+
+judge-number : (bs : List (List ℕ)) (left : List ℕ) (x : Context) (place : ℕ) (taken : List Record) (n p : ℕ) → judge x place taken bs left ≡ refused n p → n ≡ 0 → ⊥
+unfolding judge
+judge-number [] left x place taken n p j z = left-number left place n p j z
+judge-number (b ∷ bs) left x place taken n p j z =
+    eq-elim j
+    (λ f q.
+    eq-elim q
+    (λ k e. refused-not n p (place + length b) (contentOf taken) (sym e))
+    (λ k e. judge-number bs left (contextAfter x (decode b)) (place + length b) (taken ++ (decode b ∷ [])) n p e z))
+    (λ f q. f (let y : fault x (decode b) ≡ n = cc in y ∙ z))
+
+pub refusal-number : (l : List ℕ) (n p : ℕ) → verdict l ≡ refused n p → n ≡ 0 → ⊥
+unfolding verdict
+refusal-number l n p e = judge-number (cut l .whole) (cut l .left) start 0 [] n p e
 
 -- a study that is closed or refused stays so, whatever follows
 ended-stays : (l more : List ℕ) → (readAll fresh l .core .reading .phase ≡ 0 → ⊥) → readAll fresh (l ++ more) ≡ readAll fresh l
@@ -235,10 +261,6 @@ demand-totals cs c v s e a =
       kinds = omega arith;
     }
 
-near : (c : Content) (t : ℕ) → Within c t ⊎ Unnamed c t → Near c t (sumAt c t) (marginAt c t) ⊎ BothZero c t (sumAt c t)
-near c t (inl w) = inl (record { named = w .named; notAbove = w .notAbove; notBelow = w .notBelow })
-near c t (inr u) = inr (record { unnamed = u .unnamed; reported = u .sum; exact = u .exact })
-
 demand-target : (cs : List Call) (c : Content) → Valid c → (s : State) → s ≡ stateAfterAll fresh cs → ClosedState s (length (bytesOf c)) (length (bytesOf c)) c
     → (t : ℕ) → t < length (c .targets) → TargetHolds cs c t
 unfolding answerIn targetReportOf
@@ -248,7 +270,7 @@ demand-target cs c v s e a t h =
       answered = rw (← e) (ap gaveTarget (a .target t ∙ sym (lt-case _ _ _ _ h refl)));
       taken = refl;
       margin = refl;
-      near = near c t (sums-within-margin c v t);
+      near = sums-within-margin c v t;
     }
 
 pub demand-3 : Demand3

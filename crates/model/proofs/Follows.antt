@@ -11,8 +11,8 @@ use Rattle.model.specs.Bounds.{mostTargets, mostScenarios, mostRecords, 
 use Rattle.model.specs.Content.{Branching, chance}
 use Rattle.model.specs.Format.{Record, openingRec, targetRec, leakRec, branchingRec, outcomeRec, effectRec, closingRec}
 use Rattle.model.specs.Valid.{Each}
-use Rattle.model.specs.Faults.{Context, role, ownFault, fault, counted, declaring, leaking, branched, contextAfter}
-use Rattle.model.specs.Machine.{State, most16, most32, most64, taken, oneRecord, oneTarget, oneLeak, frequencyOf, aboveOf, top, leakStack, branchStack, leakBranch, branchedBranch, outcomeBranch, effectBranch, ownFaultIn, faultIn, effectState, accepted, cleared}
+use Rattle.model.specs.Faults.{Context, context, role, ownFault, fault, counted, declaring, leaking, branched, contextAfter}
+use Rattle.model.specs.Machine.{State, most16, most32, most64, taken, oneRecord, oneTarget, oneLeak, frequencyOf, aboveOf, top, leakStack, branchStack, leakBranch, branchedBranch, outcomeBranch, effectBranch, treesIn, contextIn, faultIn, effectState, accepted, cleared}
 use Rattle.model.proofs.ReadLaws.{partial, afterRecord}
 use Rattle.model.proofs.FaultLaws.{order-facts, target-facts, leak-facts, branching-facts, fault-facts}
 use Rattle.model.proofs.StackLaws.{above-packed, frequency-packed, top-at, first-le, second-le, branched-length, branched-first, branched-second, branched-below, leak-length, leak-next}
@@ -76,37 +76,32 @@ unfolding Placed
 placed-few [] p = omega arith
 placed-few (a ∷ l) p = omega (arith, p .0, p .1)
 
--- the next tree of a pile
-top-of : (l : List ℕ) (h : ℕ) → h ≤ 9 → aboveOf (top l h) ≡ getD (aboves (pile l h)) 0 0
-unfolding top pile aboves
-top-of l zero w = ap aboveOf (sym (eq-case _ _ _ _ refl refl))
-top-of l (suc h) w = ap aboveOf (top-at l (suc h) h refl w)
+-- the trees that the machine knows: how many, the next one, and that they are those of its pile
+pub trees-length : (k : List ℕ) (n : ℕ) → length (treesIn k n) ≡ n
+unfolding treesIn
+trees-length k zero = refl
+trees-length k (suc n) = ap suc (trees-length k n)
 
--- the branchings above the next tree
-next-above : (s : State) (x : Context) → Follows s x → aboveOf (top (s .stack) (s .core .branch .height)) ≡ getD (x .trees) 0 0
-next-above s x f =
+pub trees-next : (k : List ℕ) (n : ℕ) → getD (treesIn k n) 0 0 ≡ aboveOf (top k n)
+unfolding treesIn top
+trees-next k zero = ap aboveOf (eq-case _ _ _ _ refl refl)
+trees-next k (suc n) = refl
+
+trees-pile : (l : List ℕ) (h : ℕ) → h ≤ 9 → treesIn l h ≡ aboves (pile l h)
+unfolding treesIn pile aboves
+trees-pile l zero w = refl
+trees-pile l (suc h) w = ap₂ _∷_ (ap aboveOf (top-at l (suc h) h refl w)) (trees-pile l h (omega arith))
+
+-- the machine knows what the context says, and so finds the fault that it says
+same-context : (s : State) (x : Context) → Follows s x → contextIn (s .core) (s .stack) ≡ x
+same-context s x f =
     let few : s .core .branch .height ≤ 9 = rw (height-is s x f) (placed-few (x .trees) (f .placed)) in
-    top-of (s .stack) (s .core .branch .height) few ∙ ap (λ (l : List ℕ). getD l 0 0) (f .trees)
+    let t = trees-pile (s .stack) (s .core .branch .height) few ∙ f .trees in
+    λ i. context (f .counts i) (t i) (f .left i) (f .kind i) (f .next i)
 
-same-own : (s : State) (x : Context) (r : Record) → Follows s x → ownFaultIn (s .core) (s .stack) r ≡ ownFault x r
-unfolding ownFaultIn ownFault
-same-own s x (openingRec n) f = refl
-same-own s x (targetRec n t) f = let k = f .counts in cc
-same-own s x (leakRec n l) f = let k = f .counts in cc
-same-own s x (branchingRec b) f = let a = next-above s x f in cc
-same-own s x (outcomeRec k n) f = refl
-same-own s x (effectRec e) f = let k = f .counts in let o = f .kind in let n = f .next in cc
-same-own s x (closingRec n l) f = let k = f .counts in cc
-
--- the machine finds the fault that the context says
 pub same-fault : (s : State) (x : Context) (r : Record) → Follows s x → faultIn (s .core) (s .stack) r ≡ fault x r
-unfolding faultIn fault
-same-fault s x r f =
-    let k = f .counts in
-    let l = f .left in
-    let h = height-is s x f in
-    let o = same-own s x r f in
-    cc
+unfolding faultIn
+same-fault s x r f = ap (λ (y : Context). fault y r) (same-context s x f)
 
 -- ---- each kind of record keeps Follows
 

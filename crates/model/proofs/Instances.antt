@@ -10,9 +10,9 @@ use Rattle.log2.specs.Logarithm.{greatest, logarithm}
 use Rattle.probit.specs.Table.{probitTable}
 use Rattle.probit.specs.Chance.{greatestChance, chanceOf}
 use Rattle.terms.specs.Terms.{byKind}
-use Rattle.people.specs.Death.{fireProbit, settingShare, fireDeath, flashDeath, blastDeath, deathOf}
-use Rattle.equipment.specs.Damage.{blastRowOf, blastProbit, blastDamage, heatProbit, heatDamage, fireDamage, damageOf}
-use Rattle.vulnerability.specs.Effect.{effectOn}
+use Rattle.people.specs.Death.{fireProbitBy, settingShare, fireDeathBy, flashDeath, blastDeath, deathBy}
+use Rattle.equipment.specs.Damage.{blastRowOf, blastProbitBy, blastDamageBy, heatProbitBy, heatDamageBy, fireDamageBy, damageBy}
+use Rattle.vulnerability.specs.Effect.{effectBy}
 use Rattle.vulnerability.specs.Domino.{listedBy}
 use Rattle.model.specs.Sums.{sumOver, some, joinOver, numbersBelow}
 use Rattle.model.specs.Content.{inSeconds, Tree, outcome}
@@ -91,9 +91,9 @@ deep-valid =
     }
 
 pub specimen-holds : SpecimenHolds
-unfolding ifEq ifLe ifLt shareOf splitOf greatest logarithm probitTable greatestChance chanceOf byKind fireProbit settingShare fireDeath flashDeath blastDeath deathOf blastRowOf blastProbit blastDamage heatProbit heatDamage fireDamage damageOf effectOn listedBy sumOver some joinOver numbersBelow bytes encode targetRecords effectRecords treeRecords scenarioRecords leaksOf openRecords countOf recordsOf bytesOf treeOutcomes scenarioOutcomes outcomesOf judgement kindTotal overEffects unjudgedOf sumAt marginAt exactAt gradeOf listedAt dominoOf shownOf specimen
+unfolding ifEq ifLe ifLt shareOf splitOf greatest logarithm probitTable greatestChance chanceOf byKind fireProbitBy settingShare fireDeathBy flashDeath blastDeath deathBy blastRowOf blastProbitBy blastDamageBy heatProbitBy heatDamageBy fireDamageBy damageBy effectBy listedBy sumOver some joinOver numbersBelow bytes encode targetRecords effectRecords treeRecords scenarioRecords leaksOf openRecords countOf recordsOf bytesOf treeOutcomes scenarioOutcomes outcomesOf judgement kindTotal overEffects unjudgedOf sumAt marginAt exactAt gradeOf listedAt dominoOf shownOf specimen
 specimen-holds = record { valid = specimen-valid; bytes = refl; shown = refl }
 
 pub deep-holds : DeepHolds
-unfolding ifEq ifLe ifLt shareOf splitOf greatest logarithm probitTable greatestChance chanceOf byKind fireProbit settingShare fireDeath flashDeath blastDeath deathOf blastRowOf blastProbit blastDamage heatProbit heatDamage fireDamage damageOf effectOn listedBy sumOver some joinOver numbersBelow bytes encode targetRecords effectRecords treeRecords scenarioRecords leaksOf openRecords countOf recordsOf bytesOf treeOutcomes scenarioOutcomes outcomesOf judgement kindTotal overEffects unjudgedOf sumAt marginAt exactAt gradeOf listedAt dominoOf shownOf stem deep
+unfolding ifEq ifLe ifLt shareOf splitOf greatest logarithm probitTable greatestChance chanceOf byKind fireProbitBy settingShare fireDeathBy flashDeath blastDeath deathBy blastRowOf blastProbitBy blastDamageBy heatProbitBy heatDamageBy fireDamageBy damageBy effectBy listedBy sumOver some joinOver numbersBelow bytes encode targetRecords effectRecords treeRecords scenarioRecords leaksOf openRecords countOf recordsOf bytesOf treeOutcomes scenarioOutcomes outcomesOf judgement kindTotal overEffects unjudgedOf sumAt marginAt exactAt gradeOf listedAt dominoOf shownOf stem deep
 deep-holds = record { valid = deep-valid; bytes = refl; shown = refl }

@@ -6,6 +6,7 @@ pub mod Margin
 pub mod SumBounds
 pub mod DominoLaws
 pub mod Instances
+pub mod Edges
 pub mod Accepts
 pub mod ReadLaws
 pub mod Follows

@@ -18,7 +18,7 @@ use Rattle.model.specs.Content.{Effect, targetOf, Content}
 use Rattle.model.specs.Valid.{Valid}
 use Rattle.model.specs.Outcomes.{Outcome, above, outcomesOf, scenarioOutcomes}
 use Rattle.model.specs.Report.{judgement, overEffects, sumAt, marginAt, exactAt}
-use Rattle.model.specs.MeaningTheorems.{SumsWithinMargin}
+use Rattle.model.specs.MeaningTheorems.{SumsWithinMargin, UnnamedNoMargin}
 use Rattle.model.proofs.ListLaws.{join-found}
 use Rattle.model.proofs.OutcomeLaws.{Branch, scenario-outcome}
 use Rattle.model.proofs.Weights.{weightAt, partsAt, weight-parts, weight-root, weight-branch}
@@ -195,8 +195,14 @@ sums-within-margin c v t =
     }))
     (λ h. inr (record {
       unnamed = λ n. h .none (n .outcome, n .reached, (n .effect, n .among, n .names));
-      sum = h .sum;
-      margin = h .margin;
+      reported = h .sum;
       exact = h .exact;
     }))
+    (totals c v t)
+
+pub unnamed-no-margin : UnnamedNoMargin
+unnamed-no-margin c v t u =
+    ⊎-elim
+    (λ h. let n = h .0 in absurd (u (record { outcome = n .0; reached = n .1; effect = n .2 .0; among = n .2 .1; names = n .2 .2 })))
+    (λ h. h .margin)
     (totals c v t)

@@ -1,6 +1,6 @@
 -- The machine holds each outcome of the meaning, in order, with the meaning's figures. Assumes nothing.
 use mathlib.Core.Path.{_≡_, refl, sym, _∙_, ap, ap₂}
-use mathlib.Core.List.{List, [], _∷_, _++_, append-assoc, map, map-append}
+use mathlib.Core.List.{List, [], _∷_, _++_, append-assoc, append-nil, map, map-append}
 use Prim.Native.Nat.{ℕ, suc, _-_, _*_, _^_, _≤_}
 use native.Mathlib.Omega.{arith}
 use lib.ListN.{length}
@@ -9,15 +9,21 @@ use Rattle.numeric.specs.Share.{certain, splitOf}
 use Rattle.model.specs.Bounds.{mostAbove, mostFrequency}
 use Rattle.model.specs.Sums.{joinOver}
 use Rattle.model.specs.Content.{chance, Target, Effect, Tree, outcome, branching, Scenario}
-use Rattle.model.specs.Format.{Record, openingRec, leakRec, targetRec, branchingRec, outcomeRec, effectRec, targetRecords, effectRecords, treeRecords, scenarioRecords, openRecords}
-use Rattle.model.specs.Faults.{role}
+use Rattle.model.specs.Format.{Record, openingRec, leakRec, targetRec, branchingRec, outcomeRec, effectRec, closingRec, encode, targetRecords, effectRecords, treeRecords, scenarioRecords, openRecords, countOf, leaksOf, recordsOf}
+use Rattle.model.specs.Faults.{Context, start, role, fault, contextAfter}
 use Rattle.model.specs.Valid.{Each, ValidTree, ValidScenario}
 use Rattle.model.specs.Outcomes.{firstWeight, secondWeight, treeOutcomes, scenarioOutcomes, outcomesOf}
-use Rattle.model.specs.Machine.{State, accepted, fresh}
-use Rattle.model.specs.MachineTheorems.{Seen, seenAt, seenIn, seenOf, OutcomesAreTheMeanings}
+use Rattle.model.specs.Machine.{State, accepted, recordRead, cleared, readAll, fresh}
+use Rattle.model.specs.MachineTheorems.{Seen, seenAt, seenIn, seenOf, OutcomesAreTheMeanings, seenInBytes, OutcomesInBytes}
 use Rattle.model.proofs.RunData.{Data, dataOf, after, run, data-accepted}
 use Rattle.model.proofs.StackRuns.{Ready, AtHand, run-size, leak-ready, outcome-at-hand, branches}
 use Rattle.model.proofs.Runs.{opened-size}
+use Rattle.model.proofs.ListLaws.{each-parts}
+use Rattle.model.proofs.Accepts.{Accepts, Fits}
+use Rattle.model.proofs.CodecLaws.{encode-whole, decode-encode}
+use Rattle.model.proofs.ReadLaws.{partial, afterRecord, read-append}
+use Rattle.model.proofs.Agreement.{Here, data-read, here-more, here-fresh, whole-few, read-record, record-taken}
+use Rattle.model.proofs.Complete.{content-accepted}
 
 -- the same over the data alone
 noted : Data → Record → List Seen
@@ -104,3 +110,38 @@ outcomes-are-the-meanings c v =
     ∙ seen-append d ts (joinOver scenarioRecords (c .scenarios))
     ∙ ap₂ _++_ (targets-seen (c .targets) 0 d)
     (scenarios-seen (c .scenarios) (run d ts) (length (c .targets)) (v .scenarios) (run-size d ts ∙ opened-size c))
+
+-- ---- the same by bytes
+
+-- the bytes of a record without fault are read
+read-encoded : (s : State) (x : Context) (rs : List Record) (r : Record) → Here s x rs → fault x r ≡ 0 → Fits r
+    → readAll s (encode r) ≡ afterRecord s (encode r) r
+unfolding readAll
+read-encoded s x rs r h e f =
+    ap (readAll s) (sym (append-nil (encode r)))
+    ∙ read-record s x (encode r) [] (h .follows) (encode-whole r)
+    ∙ ap (λ (q : Record). cleared (recordRead (partial s (encode r)) q)) (decode-encode r f)
+    ∙ ap cleared (record-taken s x (encode r) r (h .follows) e)
+
+-- the records before a closing one
+seen-bytes : (rs : List Record) (n t : ℕ) (before : List ℕ) (s : State) (x : Context) (done : List Record) → readAll fresh before ≡ s → Here s x done
+    → Accepts x rs → Each Fits rs → seenInBytes before (rs ++ (closingRec n t ∷ [])) ≡ seenFrom (dataOf s) rs
+unfolding seenInBytes seenFrom noted Accepts ifEq
+seen-bytes [] n t before s x done e h a f = refl
+seen-bytes (r ∷ rs) n t before s x done e h a f =
+    let b : List ℕ = encode r in
+    let q : readAll fresh (before ++ b) ≡ afterRecord s b r =
+    read-append fresh before b ∙ ap (λ (v : State). readAll v b) e ∙ read-encoded s x done r h (a .0) (f .0) in
+    ap₂ (λ (v : State) (l : List Seen). ifEq (role r) 5 (seenAt (v .core .branch) ∷ []) [] ++ l) q
+    (seen-bytes rs n t (before ++ b) (afterRecord s b r) (contextAfter x r) (done ++ (r ∷ [])) q
+    (here-more s x done b r h (whole-few b (encode-whole r)) (a .0) (a .1) (f .0)) (a .2) (f .1))
+    ∙ ap (λ (d : Data). ifEq (role r) 5 (seenAt (d .branch) ∷ []) [] ++ seenFrom d rs) (data-read s b r)
+
+pub outcomes-in-bytes : OutcomesInBytes
+unfolding recordsOf readAll
+outcomes-in-bytes c v =
+    let a = content-accepted c v in
+    seen-bytes (openRecords c) (countOf c) (leaksOf c) [] fresh start [] refl here-fresh (a .accepts)
+    (each-parts Fits (openRecords c) (closingRec (countOf c) (leaksOf c) ∷ []) (a .fits) .0)
+    ∙ sym (seen-data fresh (openRecords c))
+    ∙ outcomes-are-the-meanings c v

@@ -8,6 +8,7 @@ pub mod Report
 pub mod MeaningTheorems
 pub mod Instances
 pub mod Faults
+pub mod Edges
 pub mod Verdict
 pub mod Calls
 pub mod Machine

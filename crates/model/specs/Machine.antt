@@ -20,11 +20,10 @@ use Rattle.state.specs.declared.Row.{Row}
 use Rattle.state.specs.declared.Totals.{Totals}
 use Rattle.state.specs.declared.TargetReport.{TargetReport}
 use Rattle.state.specs.declared.DominoReport.{DominoReport}
-use Rattle.model.specs.Bounds.{mostRecords}
 use Rattle.model.specs.Sums.{numbersBelow}
 use Rattle.model.specs.Content.{Branching, chance, Target, facts as factsOf, Effect, targetOf, intensity, duration, clock}
 use Rattle.model.specs.Format.{Record, openingRec, targetRec, leakRec, branchingRec, outcomeRec, effectRec, closingRec}
-use Rattle.model.specs.Faults.{role, orderFault, targetFault, leakFault, branchingFault, outcomeFault, effectFault, closingFault}
+use Rattle.model.specs.Faults.{Context, context, fault}
 use Rattle.model.specs.Verdict.{bodyLength, decode}
 use Rattle.model.specs.Report.{gradeOf}
 use Rattle.model.specs.Calls.{Call, piece, totals, target, domino, Answer, tookPiece, gaveTotals, gaveTarget, gaveDomino, noTotals, noTarget, noDomino, front}
@@ -187,20 +186,16 @@ rowAfter w b c =
 
 -- ---- a record
 
-unfoldable pub ownFaultIn : Core → List ℕ → Record → ℕ
-ownFaultIn c k (openingRec n) = 0
-ownFaultIn c k (targetRec n t) = targetFault (c .counts .targets) n (factsOf t)
-ownFaultIn c k (leakRec n f) = leakFault (c .counts .scenarios) (c .counts .last) n f
-ownFaultIn c k (branchingRec b) = branchingFault (aboveOf (top k (c .branch .height))) (chance b)
-ownFaultIn c k (outcomeRec o n) = outcomeFault o n
-ownFaultIn c k (effectRec e) = effectFault (c .counts .targets) (c .branch .kind) (c .branch .next) (targetOf e) (intensity e) (duration e)
-ownFaultIn c k (closingRec n s) = closingFault (c .counts .records) (c .counts .leaks) n s
+-- what the machine knows before a record: for each tree still to come the branchings above it, the next tree first
+unfoldable pub treesIn : List ℕ → ℕ → List ℕ
+treesIn k zero = []
+treesIn k (suc n) = aboveOf (top k (suc n)) ∷ treesIn k n
+
+abbrev pub contextIn : Core → List ℕ → Context
+contextIn c k = context (c .counts) (treesIn k (c .branch .height)) (c .branch .left) (c .branch .kind) (c .branch .next)
 
 unfoldable pub faultIn : Core → List ℕ → Record → ℕ
-faultIn c k r =
-    ifEq (orderFault (c .counts .records) (c .branch .left) (c .branch .height) (c .counts .scenarios) (role r)) 0
-    (ifLe mostRecords (c .counts .records) 5 (ownFaultIn c k r))
-    2
+faultIn c k r = fault (contextIn c k) r
 
 abbrev pub core : Reading → Counts → Branch → Tally → Core
 core h k b y = record { reading = h; counts = k; branch = b; tally = y }

@@ -2,7 +2,7 @@
 use mathlib.Core.Path.{_≡_}
 use mathlib.Core.Logic.{_↔_, _⊎_}
 use mathlib.Core.List.{List, [], _∷_, _++_, map}
-use Prim.Native.Nat.{ℕ, _+_, _*_, _^_, _<_, _≤_}
+use Prim.Native.Nat.{ℕ, _+_, _*_, _<_, _≤_}
 use lib.ListN.{length, getD}
 use Rattle.numeric.specs.Choice.{ifEq}
 use Rattle.state.specs.declared.Branch.{Branch}
@@ -11,10 +11,11 @@ use Rattle.state.specs.declared.TargetReport.{TargetReport}
 use Rattle.model.specs.Bounds.{mostTargets, mostScenarios, mostRecords, mostFrequency}
 use Rattle.model.specs.Content.{Target, Scenario, Content}
 use Rattle.model.specs.Sums.{sumOver, joinOver}
-use Rattle.model.specs.Format.{Record, openingRec, targetRec, closingRec, scenarioRecords, leaksOf, openRecords, bytesOf}
+use Rattle.model.specs.Format.{Record, openingRec, targetRec, closingRec, scenarioRecords, leaksOf, openRecords, recordsOf, encode, bytesOf}
 use Rattle.model.specs.Valid.{Valid, Each}
 use Rattle.model.specs.Outcomes.{Outcome, above, outcomesOf}
-use Rattle.model.specs.Report.{marginAt, exactAt, Named}
+use Rattle.model.specs.Report.{marginAt}
+use Rattle.model.specs.MeaningTheorems.{Near, BothZero}
 use Rattle.model.specs.Faults.{Context, start, role, orderFault, contextAfter, contextAfterAll}
 use Rattle.model.specs.Verdict.{closed, refused, verdict}
 use Rattle.model.specs.Calls.{Call, totals, target, gaveTotals, gaveTarget, answers, joined, Bytes, Callable}
@@ -54,18 +55,7 @@ pub record TotalsHold (cs : List Call) (c : Content) : Type 0 where
   pub six : length (report .kinds) ≡ 6
   pub kinds : sumOver (λ x. x) (report .kinds) ≡ leaksOf c
 
--- "at each target the reported sum differs from the exact one by less than its margin"
-pub record Near (c : Content) (t sum margin : ℕ) : Type 0 where
-  pub named : Named c t
-  pub notAbove : sum * 10 ^ 54 < exactAt c t + margin * 10 ^ 54
-  pub notBelow : exactAt c t < sum * 10 ^ 54 + margin * 10 ^ 54
-
--- "or both are nought if no effect names it"
-pub record BothZero (c : Content) (t sum : ℕ) : Type 0 where
-  pub unnamed : Named c t → ⊥
-  pub reported : sum ≡ 0
-  pub exact : exactAt c t ≡ 0
-
+-- "at each target the reported sum differs from the exact one by less than its margin, or both are nought if no effect names it"
 pub record TargetHolds (cs : List Call) (c : Content) (t : ℕ) : Type 0 where
   pub report : TargetReport
   pub answered : answerIn (stateAfterAll fresh cs) (target t) ≡ gaveTarget report
@@ -139,6 +129,16 @@ seenOf o = record { kind = o .kind; leak = o .leak; frequency = o .frequency; ab
 -- the machine holds each outcome of the meaning, in order, with the meaning's kind, leak, frequency and branchings above
 abbrev pub OutcomesAreTheMeanings : Type 0
 OutcomesAreTheMeanings = (c : Content) → Valid c → seenIn fresh (openRecords c) ≡ map seenOf (outcomesOf c)
+
+-- The same by bytes: after each front part of the bytes that ends in an outcome's record the machine's figures are noted. The bytes of the records before are given.
+unfoldable pub seenInBytes : List ℕ → List Record → List Seen
+seenInBytes before [] = []
+seenInBytes before (r ∷ rs) =
+    ifEq (role r) 5 (seenAt (readAll fresh (before ++ encode r) .core .branch) ∷ []) [] ++ seenInBytes (before ++ encode r) rs
+
+-- so it holds each outcome of the meaning, in order, once the bytes so far have been read, wherever they were cut (CutsMakeNoDifference)
+abbrev pub OutcomesInBytes : Type 0
+OutcomesInBytes = (c : Content) → Valid c → seenInBytes [] (recordsOf c) ≡ map seenOf (outcomesOf c)
 
 -- No sum of the machine stops at the greatest number of its memory on a study that calls made: all stay far below.
 pub record FarBelow (s : State) : Type 0 where

@@ -18,21 +18,24 @@ abbrev pub KindsAddUp : Type 0
 KindsAddUp = (c : Content) → Valid c
     → kindTotal c 0 + kindTotal c 1 + kindTotal c 2 + kindTotal c 3 + kindTotal c 4 + kindTotal c 5 ≡ leaksOf c
 
--- demand 3: "the reported sum differs from the exact one by less than its margin", in parts of 10^-54 of a unit
-pub record Within (c : Content) (t : ℕ) : Type 0 where
+-- demand 3: "at each target the reported sum differs from the exact one by less than its margin", in parts of 10^-54 of a unit
+pub record Near (c : Content) (t sum margin : ℕ) : Type 0 where
   pub named : Named c t
-  pub notAbove : sumAt c t * 10 ^ 54 < exactAt c t + marginAt c t * 10 ^ 54
-  pub notBelow : exactAt c t < sumAt c t * 10 ^ 54 + marginAt c t * 10 ^ 54
+  pub notAbove : sum * 10 ^ 54 < exactAt c t + margin * 10 ^ 54
+  pub notBelow : exactAt c t < sum * 10 ^ 54 + margin * 10 ^ 54
 
 -- "or both are nought if no effect names it"
-pub record Unnamed (c : Content) (t : ℕ) : Type 0 where
+pub record BothZero (c : Content) (t sum : ℕ) : Type 0 where
   pub unnamed : Named c t → ⊥
-  pub sum : sumAt c t ≡ 0
-  pub margin : marginAt c t ≡ 0
+  pub reported : sum ≡ 0
   pub exact : exactAt c t ≡ 0
 
 abbrev pub SumsWithinMargin : Type 0
-SumsWithinMargin = (c : Content) → Valid c → (t : ℕ) → Within c t ⊎ Unnamed c t
+SumsWithinMargin = (c : Content) → Valid c → (t : ℕ) → Near c t (sumAt c t) (marginAt c t) ⊎ BothZero c t (sumAt c t)
+
+-- and then so is its margin
+abbrev pub UnnamedNoMargin : Type 0
+UnnamedNoMargin = (c : Content) → Valid c → (t : ℕ) → (Named c t → ⊥) → marginAt c t ≡ 0
 
 -- demand 3: "the fraction got from leaks, branch chances and the probabilities with no rounding between":
 -- under k branchings, weight × 10^(6k) is frequency × 10^48 × the product of the chances along the path

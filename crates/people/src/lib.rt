@@ -1,14 +1,14 @@
 // The chance of death at a place of people. The caller lends the tables: the logarithm's thresholds and near steps, and the probit's rows.
 ghost use mathlib.Core.Path.{_≡_};
 ghost use Prim.Native.Nat.{_+_, _*_, _/_, min};
-ghost use Rattle.log2.specs.Logarithm.{logarithm, LogTables};
-ghost use Rattle.probit.specs.Table.{RowsReached};
-ghost use Rattle.probit.specs.Chance.{chanceOf};
-ghost use Rattle.people.specs.Death.{fireProbit, settingShare, fireDeath, flashDeath, blastDeath};
+ghost use Rattle.log2.specs.Logarithm.{logBy};
+ghost use Rattle.probit.specs.Chance.{chanceBy};
+ghost use Rattle.terms.specs.Scales.{lent};
+ghost use Rattle.people.specs.Death.{fireProbitBy, settingShare, fireDeathBy, flashDeath, blastDeath};
 
 // (4 L(Q) + 3 L(t)) × 693,147 / 300, rounded down.
 fn dose(table: &[u32; 256], near: &[u8; 512], q: u32, t: u32) -> u64
-    ensures { λ r. ⌜ (LogTables (now (table .entry)) (now (near .entry)) → r ≡ (4 * logarithm q + 3 * logarithm t) * 693147 / 300) ⌝ }
+    ensures { λ r. ⌜ r ≡ (4 * logBy (now (table .entry)) (now (near .entry)) q + 3 * logBy (now (table .entry)) (now (near .entry)) t) * 693147 / 300 ⌝ }
 {
     let heat = log2::log256(table, near, q) as u64;
     let time = log2::log256(table, near, t) as u64;
@@ -40,7 +40,7 @@ fn by_probit(
     q: u32,
     t: u32,
 ) -> u32
-    ensures { λ r. ⌜ (LogTables (now (table .entry)) (now (near .entry)) → RowsReached (now (rows .entry)) → r ≡ chanceOf (fireProbit constant q t)) ⌝ }
+    ensures { λ r. ⌜ r ≡ chanceBy (now (rows .entry)) (fireProbitBy (lent (now (table .entry)) (now (near .entry)) (now (rows .entry))) constant q t) ⌝ }
 {
     probit::chance(rows, dose(table, near, q, t), constant)
 }
@@ -56,7 +56,7 @@ pub fn fire(
     q: u32,
     duration: u16,
 ) -> u32
-    ensures { λ r. ⌜ (LogTables (now (table .entry)) (now (near .entry)) → RowsReached (now (rows .entry)) → r ≡ fireDeath longest constant setting q duration) ⌝ }
+    ensures { λ r. ⌜ r ≡ fireDeathBy (lent (now (table .entry)) (now (near .entry)) (now (rows .entry))) longest constant setting q duration ⌝ }
 {
     if 35_000 <= q {
         return 1_000_000;

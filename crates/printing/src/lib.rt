@@ -4,6 +4,7 @@ ghost use mathlib.Core.List.{[], _∷_};
 ghost use lib.ListN.{length, getD};
 ghost use Prim.Native.Nat.{_+_};
 ghost use Rattle.numeric.specs.Choice.{ifEq};
+ghost use Rattle.model.specs.Machine.{targetIn};
 ghost use Rattle.study.specs.View.{view};
 ghost use Rattle.lines.specs.Text.{textOf, refusedLine};
 ghost use Rattle.printing.specs.Report.{kindLines, closedLines, linesOf, reportLines};
@@ -34,7 +35,7 @@ fn kind_line_at(kinds: [u64; 6], k: u32) -> Line
 
 // A line of a closed study's report.
 fn closed_line_at(s: Study, t: Totals, i: u32) -> Line
-    ensures { λ r. ⌜ textOf r ≡ getD (closedLines (view s) t) i [] ⌝ }
+    ensures { λ r. ⌜ textOf r ≡ getD (closedLines (targetIn (view s)) t) i [] ⌝ }
 {
     if i == 0 {
         return lines::study_line(t);
@@ -57,7 +58,7 @@ fn closed_line_at(s: Study, t: Totals, i: u32) -> Line
 
 // A line of the report of a study with these totals.
 fn line_at(s: Study, t: Totals, i: u32) -> Line
-    ensures { λ r. ⌜ textOf r ≡ getD (linesOf (view s) t) i [] ⌝ }
+    ensures { λ r. ⌜ textOf r ≡ getD (linesOf (targetIn (view s)) t) i [] ⌝ }
 {
     if t.number == 0 {
         return closed_line_at(s, t, i);

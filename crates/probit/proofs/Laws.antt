@@ -16,7 +16,7 @@ use borrow.Author.Tests.{lt-ltb, le-ltb, le-leb, lt-leb}
 use Rattle.numeric.specs.Choice.{pick}
 use Rattle.numeric.proofs.TableLaws.{both, both-left, both-right, every, entry, getD-entry, at, rising}
 use Rattle.probit.specs.Table.{Row, rowsFrom, wholePercents, tenthsOfPercent, probits, probitTable, FirstRows, lastChance, LastReached, RowsReached}
-use Rattle.probit.specs.Chance.{greatestChance, chanceOf, ChanceRule}
+use Rattle.probit.specs.Chance.{greatestChance, chanceOf, ChanceRule, chanceBy, ChanceByRows}
 
 -- a difference of two naturals, by its sign
 difference-pos : (a b : ℕ) → b ≤ a → pos a -ℤ pos b ≡ pos (a - b)
@@ -37,19 +37,19 @@ chance-negative : (k : ℕ) → chanceOf (negsuc k) ≡ 0
 unfolding chanceOf
 chance-negative k = none-negative probitTable k
 
--- nor does 0, so a difference may stop there
+-- nor does 0
 chance-of-zero : chanceOf (pos 0) ≡ 0
 unfolding chanceOf probitTable greatestChance
 chance-of-zero = refl
 
-pub chance-difference : (a b : ℕ) → chanceOf (pos a -ℤ pos b) ≡ chanceOf (pos (a - b))
-chance-difference a b = go (decLe b a)
+-- what a table gives for a difference
+pub chance-difference : (l : List ℕ) (a b : ℕ) → getD l (min ((a - (b + 2660000)) / 10000) 543) 0 ≡ chanceBy l (pos a -ℤ pos b)
+unfolding chanceBy
+chance-difference l a b = go (decLe b a)
   where
-    go : Dec (b ≤ a) → chanceOf (pos a -ℤ pos b) ≡ chanceOf (pos (a - b))
-    go (yes h) = ap chanceOf (difference-pos a b h)
-    go (no h) =
-        let z : a - b ≡ 0 = omega arith in
-        rw z (ap chanceOf (difference-neg a b (omega arith)) ∙ chance-negative (b - suc a) ∙ sym chance-of-zero)
+    go : Dec (b ≤ a) → getD l (min ((a - (b + 2660000)) / 10000) 543) 0 ≡ chanceBy l (pos a -ℤ pos b)
+    go (yes h) = let e : a - (b + 2660000) ≡ a - b - 2660000 = omega arith in rw (difference-pos a b h, e) refl
+    go (no h) = let e : a - (b + 2660000) ≡ 0 = omega arith in rw (difference-neg a b (omega arith), e) refl
 
 -- the rows of two lists joined
 chance-append : (a b : List Row) (y : ℕ) → greatestChance (a ++ b) (pos y) ≡ max (greatestChance a (pos y)) (greatestChance b (pos y))
@@ -226,11 +226,16 @@ rows-found y i n f e =
     }
 
 -- the entry of a probit's hundredth is its chance
-pub chance-found : (l : List ℕ) (y i : ℕ) → RowsReached l → i ≡ min ((y - 2660000) / 10000) 543 → getD l i 0 ≡ chanceOf (pos y)
+chance-found : (l : List ℕ) (y i : ℕ) → RowsReached l → i ≡ min ((y - 2660000) / 10000) 543 → getD l i 0 ≡ chanceOf (pos y)
 unfolding RowsReached
 chance-found l y i t e =
     let r : LastReached (266 + i) (getD l i 0) = t i (omega arith) in
     r .same ∙ row-chance (r .count) (r .rows .within) ∙ sym (chance-of-rows y (r .count) (rows-found y i (r .count) (r .rows) e))
+
+pub chance-by-rows : ChanceByRows
+unfolding chanceBy
+chance-by-rows l t (pos y) = chance-found l y _ t refl
+chance-by-rows l t (negsuc y) = chance-found l 0 0 t refl ∙ chance-of-zero ∙ sym (chance-negative y)
 
 -- 01's words, over any rows
 None : ℤ → List Row → Type 0

@@ -3,7 +3,7 @@ ghost use mathlib.Core.Path.{_≡_};
 ghost use Prim.Native.Nat.{_-_, min};
 ghost use lib.IntN.{pos, _-ℤ_};
 ghost use Rattle.probit.specs.Table.{RowsReached};
-ghost use Rattle.probit.specs.Chance.{chanceOf};
+ghost use Rattle.probit.specs.Chance.{chanceBy};
 
 // For each hundredth from 266 to 809 the chance, in millionths, of the last row of table D.3 that it reaches.
 const ROWS: [u32; 544] = [
@@ -573,9 +573,10 @@ fn least(x: u64, y: u64) -> u64
     if x < y { x } else { y }
 }
 
-// The chance, in millionths, of the probit plus - minus, in millionths, which may be negative, where the table is that of the rows reached.
+// What a lent table gives for the probit plus - minus, in millionths, which may be negative: its chance, in millionths, where the table is that of
+// the rows reached.
 pub fn chance(rows: &[u32; 544], plus: u64, minus: u32) -> u32
-    ensures { λ r. ⌜ (RowsReached (now (rows .entry)) → r ≡ chanceOf (pos plus -ℤ pos minus)) ⌝ }
+    ensures { λ r. ⌜ r ≡ chanceBy (now (rows .entry)) (pos plus -ℤ pos minus) ⌝ }
 {
     let hundredths = above(plus, (minus as u64) + 2_660_000) / 10_000;
     let i = least(hundredths, 543) as usize;

@@ -9,13 +9,15 @@ use lib.ListN.{length, getD, drop, replicate, length-drop}
 use lib.Dec.{T}
 use Rattle.numeric.specs.Choice.{pick, ifEq}
 use Rattle.numeric.proofs.ChoiceLaws.{eq-case, ne-case, lt-case, gt-case, eq-first, eq-second, le-second, lt-first, eq-elim, lt-elim}
+use Rattle.terms.specs.Terms.{seconds}
+use Rattle.vulnerability.specs.Effect.{effectOn}
 use Rattle.state.specs.declared.Core.{Core}
 use Rattle.model.specs.Bounds.{mostRecords}
 use Rattle.model.specs.Content.{inSeconds}
 use Rattle.model.specs.Format.{effectRec}
-use Rattle.model.specs.Faults.{orderFault, effectFault}
+use Rattle.model.specs.Faults.{orderFault, effectFault, ownFault}
 use Rattle.model.specs.Verdict.{field, decode}
-use Rattle.model.specs.Machine.{State, state, core, upTo, most32, most64, taken, oneRecord, effectBranch, effectTally, rowAfter, ownFaultIn, accepted, effectState, recordRead}
+use Rattle.model.specs.Machine.{State, state, core, upTo, most32, most64, taken, oneRecord, effectBranch, effectTally, rowAfter, accepted, effectState, recordRead}
 use Rattle.counting.specs.Kinds.{withKinds}
 use Rattle.decoding.proofs.DecodeLaws.{decode-effect}
 use Rattle.effects.specs.Judging.{judgedIn}
@@ -82,10 +84,10 @@ stepped c t j = core (taken (c .reading) 0) (oneRecord (c .counts)) (effectBranc
 
 effect-read : (c : Core) (q k s m f p : List ℕ) (x u : ℕ) → getD p 0 0 ≡ 6 → 0 ≡ placeFault c 6
     → effectFault (c .counts .targets) (c .branch .kind) (c .branch .next) (field p 1 2) (field p 3 4) (field p 7 2) ≡ 0
-    → state (stepped c (field p 1 2) (judgedIn f (c .branch .kind) p .judged)) q k
-    (afterEffect (c .branch) (figures x u s m f) p .sums) (afterEffect (c .branch) (figures x u s m f) p .margins) (afterEffect (c .branch) (figures x u s m f) p .facts)
+    → state (stepped c (field p 1 2) (judgedIn (effectOn seconds) f (c .branch .kind) p .judged)) q k
+    (afterEffect (effectOn seconds) (c .branch) (figures x u s m f) p .sums) (afterEffect (effectOn seconds) (c .branch) (figures x u s m f) p .margins) (afterEffect (effectOn seconds) (c .branch) (figures x u s m f) p .facts)
     ≡ recordRead (state c q k s m f) (decode p)
-unfolding accepted effectState ownFaultIn afterEffect
+unfolding accepted effectState ownFault afterEffect
 effect-read c q k s m f p x u h z e =
     rw (decode-effect p h) (without-fault (state c q k s m f) (effectRec (inSeconds (field p 1 2) (field p 3 4) (field p 7 2))) 0 0 z refl (sym e) refl refl)
 
@@ -129,7 +131,7 @@ module _ (c : Core) (s m f l : List ℕ) where
   begin = figures (c .branch .next) (c .tally .unjudged) s m f
 
   abbrev after : ℕ → Figures
-  after n = afterEffects (c .branch) begin l n
+  after n = afterEffects (effectOn seconds) (c .branch) begin l n
 
   -- n effects that may be taken: there are bytes to read them in, whose places are counted, order and records allow them, and none has a fault of
   -- its own
@@ -152,7 +154,7 @@ module _ (c : Core) (s m f l : List ℕ) where
       let e = sound-parts _ _ _ _ (h .sounds 0 (omega arith)) in
       let n : 9 ≡ lengthOf l = sym (effect-length l (e .0)) in (
         records-alone l 9 n (omega (arith, h .room)),
-        λ q k. read-alone _ _ q k _ _ _ l 9 n (rw (← first-core c (field l 1 2) (judgedIn f (c .branch .kind) l .judged)) (effect-read c q k s m f l (c .branch .next) (c .tally .unjudged) (e .0) (h .placed) (e .1))),
+        λ q k. read-alone _ _ q k _ _ _ l 9 n (rw (← first-core c (field l 1 2) (judgedIn (effectOn seconds) f (c .branch .kind) l .judged)) (effect-read c q k s m f l (c .branch .next) (c .tally .unjudged) (e .0) (h .placed) (e .1))),
       )
 
   -- one effect more
@@ -173,13 +175,13 @@ module _ (c : Core) (s m f l : List ℕ) where
       } in
       let a : n * 9 + lengthOf p ≡ (n + 1) * 9 = omega (arith, z) in
       let v : 0 ≡ placeFault (entering d 9) 6 = place-zero (entering d 9) (omega arith) (omega (arith, b .0)) (omega (arith, b .1)) in
-      let x : afterEffect (c .branch) g p ≡ after (n + 1) = effects-more (c .branch) begin g l n refl in (
+      let x : afterEffect (effectOn seconds) (c .branch) g p ≡ after (n + 1) = effects-more (effectOn seconds) (c .branch) begin g l n refl in (
         rw a at (records-more l (n * 9) _ (standing-next (d .reading) l (n * 9) r y) (records-alone p _ refl (y .room))),
         λ q k.
             let u = reached-next (state c q k s m f) d q k (g .sums) (g .margins) (g .facts) l (n * 9) r y (e q k) in
             rw (← x, ← a)
             (one-read _ _ _ q k _ _ _ k _ _ _ l (n * 9) u
-            (rw (z, rest-is l (n * 9), ← next-core c n (g .next) (g .unjudged) (field p 1 2) (judgedIn (g .facts) (c .branch .kind) p .judged) w)
+            (rw (z, rest-is l (n * 9), ← next-core c n (g .next) (g .unjudged) (field p 1 2) (judgedIn (effectOn seconds) (g .facts) (c .branch .kind) p .judged) w)
             (effect-read (entering d 9) q k (g .sums) (g .margins) (g .facts) p (g .next) (g .unjudged) (o .0) v (o .1)))),
       )
 

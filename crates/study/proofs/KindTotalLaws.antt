@@ -5,7 +5,7 @@ use Prim.Native.Nat.{ℕ}
 use Rattle.numeric.proofs.ChoiceLaws.{eq-through}
 use Rattle.state.specs.declared.Core.{Core}
 use Rattle.model.specs.Format.{Record, openingRec, targetRec, leakRec, branchingRec, outcomeRec, effectRec, closingRec}
-use Rattle.model.specs.Machine.{State, state, ownFaultIn, faultIn, studyTally, effectTally, effectState, accepted, withReading, recordRead}
+use Rattle.model.specs.Machine.{State, state, faultIn, studyTally, effectTally, effectState, accepted, withReading, recordRead}
 use Rattle.counting.specs.Kinds.{withKinds}
 
 unfoldable kinded : List ℕ → State → State
@@ -21,7 +21,7 @@ Other (effectRec e) = Unit
 Other (closingRec n s) = Unit
 
 kinds-stay : (l : List ℕ) (s : State) (r : Record) → Other r → kinded l (recordRead s r) ≡ recordRead (kinded l s) r
-unfolding Other kinded recordRead faultIn ownFaultIn accepted withReading effectState studyTally effectTally
+unfolding Other kinded recordRead faultIn accepted withReading effectState studyTally effectTally
 kinds-stay l s (openingRec n) o = sym (eq-through (kinded l) _ _ refl refl)
 kinds-stay l s (targetRec n t) o = sym (eq-through (kinded l) _ _ refl refl)
 kinds-stay l s (leakRec n f) o = sym (eq-through (kinded l) _ _ refl refl)

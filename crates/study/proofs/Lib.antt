@@ -1,4 +1,5 @@
 pub mod ViewLaws
+pub mod RunLaws
 pub mod LoopLaws
 pub mod SpanLaws
 pub mod RecordLaws

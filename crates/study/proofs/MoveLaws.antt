@@ -17,7 +17,7 @@ use Rattle.state.specs.declared.Tally.{Tally}
 use Rattle.state.specs.declared.Core.{Core}
 use Rattle.model.specs.Format.{Record, openingRec, targetRec, leakRec, branchingRec, outcomeRec, effectRec, closingRec}
 use Rattle.model.specs.Verdict.{decode}
-use Rattle.model.specs.Machine.{State, state, core, reading, upTo, most64, store, begun, grown, taken, refusedWith, ownFaultIn, faultIn, effectState, accepted, withReading, recordRead, cleared, ended, body, step, readAll}
+use Rattle.model.specs.Machine.{State, state, core, reading, upTo, most64, store, begun, grown, taken, refusedWith, faultIn, effectState, accepted, withReading, recordRead, cleared, ended, body, step, readAll}
 use Rattle.model.proofs.ReadLaws.{read-stays}
 use Rattle.reading.specs.Moving.{shifted, moved}
 use Rattle.study.specs.Spans.{lengthOf, afterFirst, Records}
@@ -98,7 +98,7 @@ module _ (f : Reading) (n : ℕ) where
 
   record-moved : (s : State) (phase have number at : ℕ) (r : Record)
       → recordRead (withReading s (reading phase have (shifted f n (s .core .reading .place)) (shifted f n (s .core .reading .start)) number at)) r ≡ movedIn (recordRead s r)
-  unfolding recordRead faultIn ownFaultIn accepted withReading effectState taken refusedWith
+  unfolding recordRead faultIn accepted withReading effectState taken refusedWith
   record-moved s phase have number at (openingRec x) = record-case s (accepted s (openingRec x)) 0 _ (λ e. omega arith)
   record-moved s phase have number at (targetRec x t) = record-case s (accepted s (targetRec x t)) 0 _ (λ e. omega arith)
   record-moved s phase have number at (leakRec x y) = record-case s (accepted s (leakRec x y)) 0 _ (λ e. omega arith)

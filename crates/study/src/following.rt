@@ -3,11 +3,10 @@ ghost use mathlib.Core.Path.{_≡_};
 ghost use mathlib.Core.List.{List};
 ghost use Prim.Native.Nat.{ℕ, _+_, _-_, _*_, _<_, _≤_};
 ghost use lib.ListN.{length, getD, replicate};
-ghost use Rattle.log2.specs.Logarithm.{LogTables};
-ghost use Rattle.probit.specs.Table.{RowsReached};
 ghost use Rattle.model.specs.Bounds.{mostRecords};
 ghost use Rattle.model.specs.Machine.{most64, state};
 ghost use Rattle.counting.specs.Kinds.{withKinds};
+ghost use Rattle.effects.specs.Judging.{RightTables};
 ghost use Rattle.study.specs.Following.{readingAfter, coreAfter};
 ghost use Rattle.study.specs.Spans.{afterFirst, Records};
 use crate::Study;
@@ -119,7 +118,7 @@ pub(crate) fn read_effects(
     margins: &mut [u32; 256],
     facts: &mut [u64; 256],
 ) -> Run
-    requires { ⌜ LogTables (now table) (now near) × RowsReached (now rows) × (16 ≤ length (now bytes)) × (getD (now bytes) 0 0 ≡ 6) ⌝ }
+    requires { ⌜ RightTables (now table) (now near) (now rows) × (16 ≤ length (now bytes)) × (getD (now bytes) 0 0 ≡ 6) ⌝ }
     requires { ⌜ c .reading .place + (length (now bytes) - 9) ≤ most64 ⌝ }
     ensures { λ r. ⌜ Records (now (bytes .entry)) (r .at) ⌝ }
     ensures { λ r. ⌜ ((l q k : List ℕ) → state (withKinds (r .core) l) (replicate 16 0) k (now (sums .exit)) (now (margins .exit)) (now (facts .exit)) ≡ afterFirst (state (withKinds c l) q k (now (sums .entry)) (now (margins .entry)) (now (facts .entry))) (now (bytes .entry)) (r .at)) ⌝ }

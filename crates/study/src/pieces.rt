@@ -1,8 +1,6 @@
 // Pieces.
-ghost use mathlib.Core.Path.{_≡_};
-ghost use lib.ListN.{length};
-ghost use Rattle.model.specs.Machine.{readAll, numberAfter, placeAfter};
-ghost use Rattle.study.specs.View.{view};
+ghost use Rattle.model.specs.Calls.{piece, tookPiece};
+ghost use Rattle.study.specs.Runs.{Called};
 use crate::Study;
 use crate::whole::read_on;
 
@@ -16,9 +14,7 @@ pub struct Taken {
 impl Study {
     // Reads a piece. The arrays are copied once and lent in the loop. So are the totals of the kinds, which are put back into the core at the end.
     pub fn piece(self, bytes: &[u8]) -> Taken
-        ensures { λ r. ⌜ view (r .study) ≡ readAll (view self) (now (bytes .entry)) ⌝ }
-        ensures { λ r. ⌜ r .number ≡ numberAfter (self .core .reading .place) (length (now (bytes .entry))) (readAll (view self) (now (bytes .entry)) .core .reading) ⌝ }
-        ensures { λ r. ⌜ r .place ≡ placeAfter (readAll (view self) (now (bytes .entry)) .core .reading) ⌝ }
+        ensures { λ r. ⌜ Called self (piece (now (bytes .entry))) (tookPiece (r .number) (r .place)) (r .study) ⌝ }
     {
         let mut core = self.core;
         let mut pending = self.pending;

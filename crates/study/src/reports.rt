@@ -1,8 +1,6 @@
 // Reports: nothing but these shows a sum, a total, a margin or a mark, and only of a closed study.
-ghost use mathlib.Core.Path.{_≡_};
-ghost use lib.ListN.{length};
-ghost use Rattle.model.specs.Machine.{totalsIn, targetIn, dominoIn, listAfter};
-ghost use Rattle.study.specs.View.{view};
+ghost use Rattle.model.specs.Calls.{totals, target, domino, gaveTotals, gaveTarget, gaveDomino};
+ghost use Rattle.study.specs.Runs.{Called};
 use crate::Study;
 use reporting::least;
 use state::DominoReport;
@@ -13,7 +11,7 @@ use state::Totals;
 impl Study {
     // The totals of the whole study.
     pub fn totals(self) -> Totals
-        ensures { λ r. ⌜ r ≡ totalsIn (self .core) ⌝ }
+        ensures { λ r. ⌜ Called self totals (gaveTotals r) self ⌝ }
     {
         let core = self.core;
         reporting::report_totals(core)
@@ -21,7 +19,7 @@ impl Study {
 
     // One target: sum, margin, and its grade or whether it is listed.
     pub fn target(self, t: u16) -> TargetReport
-        ensures { λ r. ⌜ r ≡ targetIn (view self) t ⌝ }
+        ensures { λ r. ⌜ Called self (target t) (gaveTarget r) self ⌝ }
     {
         let core = self.core;
         let h = core.reading;
@@ -46,8 +44,7 @@ impl Study {
 
     // The domino list, into the front of a lent list; the rest of it stays, and a refused call writes none.
     pub fn domino(self, list: &mut [u16]) -> DominoReport
-        ensures { λ r. ⌜ r ≡ dominoIn (view self) (length (now (list .entry))) ⌝ }
-        ensures { λ r. ⌜ now (list .exit) ≡ listAfter (view self) (now (list .entry)) ⌝ }
+        ensures { λ r. ⌜ Called self (domino (now (list .entry))) (gaveDomino r (now (list .exit))) self ⌝ }
     {
         let core = self.core;
         let facts = self.facts;

@@ -5,10 +5,9 @@ ghost use mathlib.Core.Bool.{true};
 ghost use mathlib.Core.List.{List};
 ghost use Prim.Native.Nat.{ℕ, _+_, _≤_};
 ghost use lib.ListN.{length, getD, replicate};
-ghost use Rattle.log2.specs.Logarithm.{LogTables};
-ghost use Rattle.probit.specs.Table.{RowsReached};
 ghost use Rattle.model.specs.Machine.{most64, core, reading, state};
 ghost use Rattle.counting.specs.Kinds.{withKinds};
+ghost use Rattle.effects.specs.Judging.{RightTables};
 ghost use Rattle.study.specs.Spans.{lengthOf, afterFirst, Records};
 use crate::following::read_effects;
 use crate::records::Run;
@@ -87,7 +86,7 @@ fn read_one(
     facts: &mut [u64; 256],
     kinds: &mut [u64; 6],
 ) -> Run
-    requires { ⌜ LogTables (now table) (now near) × RowsReached (now rows) × (16 ≤ length (now p)) × (3 ≤ getD (now p) 0 0) × (getD (now p) 0 0 ≤ 6) × (at + length (now p) ≤ most64) ⌝ }
+    requires { ⌜ RightTables (now table) (now near) (now rows) × (16 ≤ length (now p)) × (3 ≤ getD (now p) 0 0) × (getD (now p) 0 0 ≤ 6) × (at + length (now p) ≤ most64) ⌝ }
     ensures { λ r. ⌜ Records (now (p .entry)) (r .at) ⌝ }
     ensures { λ r. ⌜ ((q : List ℕ) → state (withKinds (r .core) (now (kinds .exit))) (replicate 16 0) (now (stack .exit)) (now (sums .exit)) (now (margins .exit)) (now (facts .exit)) ≡ afterFirst (state (withKinds (core (reading 0 (lengthOf (now (p .entry))) (at + lengthOf (now (p .entry))) at 0 0) k b y) (now (kinds .entry))) q (now (stack .entry)) (now (sums .entry)) (now (margins .entry)) (now (facts .entry))) (now (p .entry)) (r .at)) ⌝ }
 {
@@ -126,7 +125,7 @@ fn read_from_first(
     facts: &mut [u64; 256],
     kinds: &mut [u64; 6],
 ) -> Run
-    requires { ⌜ LogTables (now table) (now near) × RowsReached (now rows) × (16 ≤ length (now bytes)) × (3 ≤ getD (now bytes) 0 0) × (getD (now bytes) 0 0 ≤ 6) ⌝ }
+    requires { ⌜ RightTables (now table) (now near) (now rows) × (16 ≤ length (now bytes)) × (3 ≤ getD (now bytes) 0 0) × (getD (now bytes) 0 0 ≤ 6) ⌝ }
     ensures { λ r. ⌜ Records (now (bytes .entry)) (r .at) ⌝ }
     ensures { λ r. ⌜ ((q : List ℕ) → state (withKinds (r .core) (now (kinds .exit))) (replicate 16 0) (now (stack .exit)) (now (sums .exit)) (now (margins .exit)) (now (facts .exit)) ≡ afterFirst (state (withKinds (core (reading 0 (lengthOf (now (bytes .entry))) (lengthOf (now (bytes .entry))) 0 0 0) (c .counts) (c .branch) (c .tally)) (now (kinds .entry))) q (now (stack .entry)) (now (sums .entry)) (now (margins .entry)) (now (facts .entry))) (now (bytes .entry)) (r .at)) ⌝ }
 {
@@ -182,7 +181,7 @@ pub(crate) fn read_scenarios(
     facts: &mut [u64; 256],
     kinds: &mut [u64; 6],
 ) -> Run
-    requires { ⌜ LogTables (now table) (now near) × RowsReached (now rows) × (16 ≤ length (now bytes)) × (3 ≤ getD (now bytes) 0 0) × (getD (now bytes) 0 0 ≤ 6) ⌝ }
+    requires { ⌜ RightTables (now table) (now near) (now rows) × (16 ≤ length (now bytes)) × (3 ≤ getD (now bytes) 0 0) × (getD (now bytes) 0 0 ≤ 6) ⌝ }
     ensures { λ r. ⌜ Records (now (bytes .entry)) (r .at) ⌝ }
     ensures { λ r. ⌜ ((q : List ℕ) → state (withKinds (r .core) (now (kinds .exit))) (replicate 16 0) (now (stack .exit)) (now (sums .exit)) (now (margins .exit)) (now (facts .exit)) ≡ afterFirst (state (withKinds c (now (kinds .entry))) q (now (stack .entry)) (now (sums .entry)) (now (margins .entry)) (now (facts .entry))) (now (bytes .entry)) (r .at)) ⌝ }
 {

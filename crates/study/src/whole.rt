@@ -4,12 +4,11 @@ ghost use mathlib.Core.Bool.{true, false};
 ghost use mathlib.Core.List.{List};
 ghost use Prim.Native.Nat.{ℕ, _+_, _-_, _<_, _≤_};
 ghost use lib.ListN.{length, getD, take, drop, replicate};
-ghost use Rattle.log2.specs.Logarithm.{LogTables};
-ghost use Rattle.probit.specs.Table.{RowsReached};
 ghost use Rattle.numeric.specs.Choice.{pick};
 ghost use Rattle.model.specs.Verdict.{decode};
 ghost use Rattle.model.specs.Machine.{core, reading, state, recordRead, cleared, step, readAll};
 ghost use Rattle.counting.specs.Kinds.{withKinds};
+ghost use Rattle.effects.specs.Judging.{RightTables};
 ghost use Rattle.study.specs.Spans.{Between, Next, lengthOf, afterFirst, Records};
 use crate::records::Run;
 use crate::records::read_other;
@@ -60,7 +59,7 @@ fn read_some(
     facts: &mut [u64; 256],
     kinds: &mut [u64; 6],
 ) -> Run
-    requires { ⌜ LogTables (now table) (now near) × RowsReached (now rows) × (16 ≤ length (now bytes)) ⌝ }
+    requires { ⌜ RightTables (now table) (now near) (now rows) × (16 ≤ length (now bytes)) ⌝ }
     ensures { λ r. ⌜ Records (now (bytes .entry)) (r .at) ⌝ }
     ensures { λ r. ⌜ ((q : List ℕ) → state (withKinds (r .core) (now (kinds .exit))) (replicate 16 0) (now (stack .exit)) (now (sums .exit)) (now (margins .exit)) (now (facts .exit)) ≡ afterFirst (state (withKinds c (now (kinds .entry))) q (now (stack .entry)) (now (sums .entry)) (now (margins .entry)) (now (facts .entry))) (now (bytes .entry)) (r .at)) ⌝ }
 {
@@ -97,7 +96,7 @@ fn read_records(
     facts: &mut [u64; 256],
     kinds: &mut [u64; 6],
 ) -> Run
-    requires { ⌜ LogTables (now table) (now near) × RowsReached (now rows) × (16 ≤ length (now bytes)) ⌝ }
+    requires { ⌜ RightTables (now table) (now near) (now rows) × (16 ≤ length (now bytes)) ⌝ }
     ensures { λ r. ⌜ Records (now (bytes .entry)) (r .at) ⌝ }
     ensures { λ r. ⌜ ((q : List ℕ) → state (withKinds (r .core) (now (kinds .exit))) (replicate 16 0) (now (stack .exit)) (now (sums .exit)) (now (margins .exit)) (now (facts .exit)) ≡ afterFirst (state (withKinds c (now (kinds .entry))) q (now (stack .entry)) (now (sums .entry)) (now (margins .entry)) (now (facts .entry))) (now (bytes .entry)) (r .at)) ⌝ }
 {

@@ -8,6 +8,9 @@ use Rattle.terms.specs.declared.Judged.{Judged}
 abbrev pub noEffect : ℕ
 noEffect = 0
 
+abbrev pub poolFire : ℕ
+poolFire = 1
+
 abbrev pub fireball : ℕ
 fireball = 3
 

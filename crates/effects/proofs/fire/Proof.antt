@@ -1,6 +1,7 @@
 -- `effects::fire` meets its contract: on a target that has a row, or past the rows. Assumes nothing.
 use mathlib.Core.Path.{sym, _∙_}
 use native.Mathlib.Omega.{arith}
+use Rattle.vulnerability.proofs.FormLaws.{people-judged}
 use Rattle.effects.proofs.StepLaws.{Read, row-of, next-row, taking-row, next-past, taking-past}
 use borrow.Author.Needs.{needs}
 use Rattle.effects.proofs.fire.Statement.{statement}
@@ -47,7 +48,7 @@ returns c =
     let e = z .before in
     let s = e .before .before .before .before .before in
     let fault = sym (e .effect-fault .ensures) ∙ z .if1 .taken in
-    ((next-row (s .args .b) (s .args .next) (read-at e) fault, c .fire-row .ensures .1), λ h q. taking-row (s .args .b) (s .args .next) (read-at e) fault (c .fire-row .ensures .0 h q))
+    ((next-row (s .args .b) (s .args .next) (read-at e) fault, c .fire-row .ensures .1), taking-row (s .args .b) (s .args .next) (read-at e) fault (c .fire-row .ensures .0))
 
 past-rows-requires : tie.Need-past-rows-requires
 past-rows-requires c κs = search needs
@@ -58,7 +59,7 @@ returns-2 c =
     let e = z .before in
     let s = e .before .before .before .before .before in
     let past = c .past-rows .ensures in
-    ((next-past (s .args .b) (s .args .next) (read-at e) _ (past .0), omega (arith, past .1)), λ h q. taking-past (s .args .b) (s .args .next) (read-at e) (λ k. z .if1 .left (e .effect-fault .ensures ∙ k)) (past .1))
+    ((next-past (s .args .b) (s .args .next) (read-at e) _ (past .0), omega (arith, past .1)), taking-past (s .args .b) (s .args .next) (read-at e) (people-judged _) (λ k. z .if1 .left (e .effect-fault .ensures ∙ k)) (past .1))
 
 pub fire-spec : {M : Type 1} → statement M
 fire-spec =

@@ -1,10 +1,11 @@
 -- `effects::fire_row` meets its contract, class by class. Assumes nothing.
-use mathlib.Core.Path.{_≡_, refl}
+use mathlib.Core.Path.{_≡_, refl, sym, _∙_, ap}
 use Prim.Native.Nat.{ℕ, _<_}
 use mathlib.Core.Logic.{inl}
 use native.Mathlib.Omega.{arith}
+use Rattle.terms.specs.declared.Judged.{Judged}
 use Rattle.terms.specs.Terms.{judgedAs, unjudged}
-use Rattle.vulnerability.proofs.FormLaws.{fire-judged, unjudged-fire, no-class, without-effect}
+use Rattle.vulnerability.proofs.FormLaws.{fires-alike, fire-judged, unjudged-fire, no-class, without-effect}
 use Rattle.effects.proofs.RowLaws.{added, spared}
 use borrow.Author.Needs.{needs}
 use Rattle.effects.proofs.fire_row.Statement.{statement}
@@ -41,7 +42,7 @@ returns c =
     let w = k .before .as-kept .ensures in
     let a = k .before .before .before .before in
     let s = a .before .before in
-    (λ h q. spared _ _ _ _ _ _ _ _ (s .pre .0) (a .add-margin .ensures) _ (k .unpack-facts .ensures) (judgedAs 0) 0 (without-effect _ _ _ _ (inl (c .if1 .taken))) refl refl (omega (arith, w .0, w .1)), omega arith)
+    (spared _ _ _ _ _ _ _ _ _ (s .pre .0) (a .add-margin .ensures) _ (k .unpack-facts .ensures) (judgedAs 0) 0 (without-effect _ _ _ _ _ (inl (c .if1 .taken))) refl refl (omega (arith, w .0, w .1)), omega arith)
 
 burns-requires : tie.Need-burns-requires
 burns-requires c κs = search needs
@@ -61,7 +62,7 @@ returns-2 c =
     let a = k .before .before .before .before in
     let s = a .before .before in
     let l : 0 < s .args .b .kind = omega (arith, n .if1 .left) in
-    (λ h q. added _ _ _ _ _ _ _ _ (s .pre .0) (a .add-margin .ensures) _ (k .unpack-facts .ensures) _ _ _ (x .fire .ensures h q _ l (s .pre .1)) (fire-judged _ _ _ _ l (s .pre .1) (t .before .burns .ensures .1 (t .if2 .taken))) (c .add-chance .ensures .0) (c .add-chance .ensures .1), omega arith)
+    (added _ _ _ _ _ _ _ _ _ (s .pre .0) (a .add-margin .ensures) _ (k .unpack-facts .ensures) _ _ _ (x .fire .ensures ∙ ap (λ (j : Judged). j .chance) (sym (fires-alike _ _ _ _ _ _ l (s .pre .1)))) (fire-judged _ _ _ _ _ l (s .pre .1) (t .before .burns .ensures .1 (t .if2 .taken))) (c .add-chance .ensures .0) (c .add-chance .ensures .1), omega arith)
 
 returns-3 : tie.Need-returns-3
 returns-3 c =
@@ -74,7 +75,7 @@ returns-3 c =
     let s = a .before .before in
     let none = y .burns .ensures .0 (o .if2 .left) in
     let l : 0 < s .args .b .kind = omega (arith, n .if1 .left) in
-    (λ h q. spared _ _ _ _ _ _ _ _ (s .pre .0) (a .add-margin .ensures) _ (k .unpack-facts .ensures) unjudged 1 (unjudged-fire _ _ _ _ (none .0) l (s .pre .1) (none .1) (c .if3 .taken)) refl refl (omega (arith, w .0, w .1)), omega arith)
+    (spared _ _ _ _ _ _ _ _ _ (s .pre .0) (a .add-margin .ensures) _ (k .unpack-facts .ensures) unjudged 1 (unjudged-fire _ _ _ _ _ (none .0) l (s .pre .1) (none .1) (c .if3 .taken)) refl refl (omega (arith, w .0, w .1)), omega arith)
 
 returns-4 : tie.Need-returns-4
 returns-4 c =
@@ -87,7 +88,7 @@ returns-4 c =
     let s = a .before .before in
     let none = y .burns .ensures .0 (o .if2 .left) in
     let v = no-five (none .2) (c .if3 .left) in
-    (λ h q. spared _ _ _ _ _ _ _ _ (s .pre .0) (a .add-margin .ensures) _ (k .unpack-facts .ensures) (judgedAs 0) 0 (no-class _ _ _ _ (none .0) v) refl refl (omega (arith, w .0, w .1)), omega arith)
+    (spared _ _ _ _ _ _ _ _ _ (s .pre .0) (a .add-margin .ensures) _ (k .unpack-facts .ensures) (judgedAs 0) 0 (no-class _ _ _ _ _ (none .0) v) refl refl (omega (arith, w .0, w .1)), omega arith)
 
 pub fire-row-spec : {M : Type 1} → statement M
 fire-row-spec =

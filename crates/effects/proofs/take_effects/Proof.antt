@@ -4,11 +4,11 @@ use mathlib.Core.Bool.{true}
 use Prim.Native.Nat.{ℕ, _-_, _*_, _<_, _≤_}
 use native.Mathlib.Omega.{arith}
 use lib.ListN.{drop}
-use Rattle.log2.specs.Logarithm.{LogTables}
-use Rattle.probit.specs.Table.{RowsReached}
 use Rattle.model.specs.Machine.{upTo, most32}
+use Rattle.effects.specs.Judging.{byTables}
 use Rattle.effects.specs.Effects.{Figures, figures, afterEffects, sound}
 use Rattle.effects.proofs.Laws.{effects-none, effects-next, step-sound, step-unsound, step-parts, step-left, sound-at, sound-more, more-missed}
+use Rattle.effects.proofs.TakenLaws.{taken-only}
 use borrow.Author.Needs.{needs}
 use Rattle.effects.proofs.take_effects.Statement.{statement}
 use Rattle.effects.proofs.take_effects.Tie as tie
@@ -16,8 +16,8 @@ use Rattle.effects.proofs.take_effects.Tie as tie
 abbrev Inv-loop : tie.InvT-loop
 Inv-loop table near rows b targets most before bytes sums₀ margins₀ facts₀ top limit count₀ next₀ missed₀ sums margins facts count next missed =
     (count ≤ top) × (missed ≤ count)
-    × (LogTables table near → RowsReached rows → figures next (upTo most32 before missed) sums margins facts ≡ afterEffects b (figures (b .next) before sums₀ margins₀ facts₀) bytes count)
-    × (LogTables table near → RowsReached rows → (i : ℕ) → i < count → sound targets (b .kind) (afterEffects b (figures (b .next) before sums₀ margins₀ facts₀) bytes i .next) (drop (i * 9) bytes) ≡ true)
+    × (figures next (upTo most32 before missed) sums margins facts ≡ afterEffects (byTables table near rows) b (figures (b .next) before sums₀ margins₀ facts₀) bytes count)
+    × ((i : ℕ) → i < count → sound targets (b .kind) (afterEffects (byTables table near rows) b (figures (b .next) before sums₀ margins₀ facts₀) bytes i .next) (drop (i * 9) bytes) ≡ true)
 
 abbrev μ-loop : tie.MeasureT-loop
 μ-loop table near rows b targets most before bytes sums₀ margins₀ facts₀ top limit count₀ next₀ missed₀ sums margins facts count next missed = top - count
@@ -32,7 +32,7 @@ loop-holds : tie.Need-loop-holds Inv-loop μ-loop
 loop-holds c =
     let s = c .before .before .before in
     let e : upTo most32 (s .args .before) 0 ≡ s .args .before = omega (arith, s .good) in
-    (omega arith, omega arith, λ h q. rw e (effects-none _ _ _), λ h q i w. let z : ⊥ = omega arith in absurd z)
+    (omega arith, omega arith, rw e (effects-none _ _ _ _), λ i w. let z : ⊥ = omega arith in absurd z)
 
 mul-at : tie.Need-mul-at Inv-loop μ-loop
 mul-at c = let l = c .before .before .before in omega (arith, c .loop-test .taken, l .reach .ensures, l .before .before .good)
@@ -78,12 +78,10 @@ loop-again c =
     let e = k .take-one .ensures in (
       omega (arith, i .loop-test .taken),
       omega (arith, v .inv .1, e .0 .1),
-      λ h q.
-          effects-next _ _ _ _ (g .bytes .now) (v .count) (v .inv .2 h q)
-          (step-parts (g .targets) (g .b) _ _ _ (e .0 .0) _ _ (t .if1 .taken) (more-missed (g .before) (v .missed) _ _ refl) (e .1 h q)),
-      λ h q.
-          sound-more (g .targets) (g .b) _ (g .bytes .now) (v .count) (v .inv .3 h q)
-          (ap (λ (x : Figures). sound (g .targets) (g .b .kind) (x .next) (drop (v .count * 9) (g .bytes .now))) (sym (v .inv .2 h q)) ∙ sym (sound-at _ _ _ (g .bytes .now) (v .count * 9)) ∙ step-sound (g .targets) (g .b) _ _ _ (e .0 .0) (t .if1 .taken)),
+      effects-next _ _ _ _ _ (g .bytes .now) (v .count) (v .inv .2)
+          (step-parts (g .targets) (g .b) _ _ _ (e .0 .0) _ _ (t .if1 .taken) (more-missed (g .before) (v .missed) _ _ refl) (e .1)),
+      sound-more _ (g .targets) (g .b) _ (g .bytes .now) (v .count) (v .inv .3)
+          (ap (λ (x : Figures). sound (g .targets) (g .b .kind) (x .next) (drop (v .count * 9) (g .bytes .now))) (sym (v .inv .2)) ∙ sym (sound-at _ _ _ (g .bytes .now) (v .count * 9)) ∙ step-sound (g .targets) (g .b) _ _ _ (e .0 .0) (t .if1 .taken)),
     )
 
 unjudged-after-requires : tie.Need-unjudged-after-requires Inv-loop μ-loop
@@ -101,11 +99,14 @@ returns c =
     let l = i .before .before .before in
     let g = l .before .before .args in
     let e = k .take-one .ensures in (
-      omega (arith, i .loop-test .taken, l .reach .ensures),
-      (
-        λ h q. rw (c .unjudged-after .ensures) (step-left (g .targets) (g .b) _ _ _ (e .0 .0) _ (o .if1 .left) (e .1 h q) ∙ v .inv .2 h q),
-        (v .inv .3, λ w. sym (sound-at _ _ _ (g .bytes .now) (v .count * 9)) ∙ step-unsound (g .targets) (g .b) _ _ _ (e .0 .0) (o .if1 .left)),
-      ),
+      rw (← l .reach .ensures)
+          (taken-only _ (g .targets) (g .b) _ (g .bytes .now) _ (v .count)
+          record {
+            within = omega (arith, i .loop-test .taken);
+            sounds = v .inv .3;
+            stops = λ w. ap (λ (x : Figures). sound (g .targets) (g .b .kind) (x .next) (drop (v .count * 9) (g .bytes .now))) (sym (v .inv .2)) ∙ sym (sound-at _ _ _ (g .bytes .now) (v .count * 9)) ∙ step-unsound (g .targets) (g .b) _ _ _ (e .0 .0) (o .if1 .left);
+          }),
+      rw (c .unjudged-after .ensures) (step-left (g .targets) (g .b) _ _ _ (e .0 .0) _ (o .if1 .left) (e .1) ∙ v .inv .2),
     )
 
 unjudged-after-requires-2 : tie.Need-unjudged-after-requires-2 Inv-loop μ-loop
@@ -117,12 +118,12 @@ unjudged-after-requires-2 c κs =
 returns-2 : tie.Need-returns-2 Inv-loop μ-loop
 returns-2 c =
     let v = c .before .before .loop in
-    let l = c .before .before .before .before in (
-      omega (arith, v .inv .0, l .reach .ensures),
-      (
-        λ h q. rw (c .unjudged-after2 .ensures) (v .inv .2 h q),
-        (v .inv .3, λ w. let z : ⊥ = omega (arith, w, c .before .loop-test .left, l .reach .ensures) in absurd z),
-      ),
+    let l = c .before .before .before .before in
+    let g = l .before .before .args in (
+      rw (← l .reach .ensures)
+          (taken-only _ (g .targets) (g .b) _ (g .bytes .now) _ (v .count)
+          record { within = v .inv .0; sounds = v .inv .3; stops = λ w. let z : ⊥ = omega (arith, w, c .before .loop-test .left) in absurd z }),
+      rw (c .unjudged-after2 .ensures) (v .inv .2),
     )
 
 pub take-effects-spec : {M : Type 1} → statement M

@@ -20,7 +20,7 @@ flash-requires : tie.Need-flash-requires
 flash-requires c κs = search needs
 
 returns-2 : tie.Need-returns-2
-returns-2 c = search needs
+returns-2 c = (c .flash .ensures .0, c .flash .ensures .1 _)
 
 blast-requires : tie.Need-blast-requires
 blast-requires c κs = search needs
@@ -32,7 +32,7 @@ returns-4 : tie.Need-returns-4
 returns-4 c =
     let s = c .before .before .before in
     let other : getD (s .args .p .now) 0 0 ≡ 6 → ⊥ = λ z. c .if1 .left (c .before .kind .ensures ∙ z) in
-    ((next-none (s .args .targets) (s .args .b) (s .args .next) (s .args .p .now) other, omega arith), λ h q. taking-none (s .args .targets) (s .args .b) (s .args .next) (s .args .p .now) other)
+    ((next-none (s .args .targets) (s .args .b) (s .args .next) (s .args .p .now) other, omega arith), taking-none (s .args .targets) (s .args .b) (s .args .next) (s .args .p .now) other)
 
 pub take-one-spec : {M : Type 1} → statement M
 take-one-spec =

@@ -1,6 +1,6 @@
 -- `equipment::heat_chance` meets its contract. Assumes nothing.
 use native.Mathlib.Omega.{arith}
-use Rattle.equipment.specs.Damage.{heatProbit}
+use Rattle.equipment.specs.Damage.{heatProbitBy}
 use borrow.Author.Needs.{needs}
 use Rattle.equipment.proofs.heat_chance.Statement.{statement}
 use Rattle.equipment.proofs.heat_chance.Tie as tie
@@ -18,8 +18,8 @@ chance-requires : tie.Need-chance-requires
 chance-requires c κs = search needs
 
 returns : tie.Need-returns
-unfolding heatProbit
-returns c t w = rw (← c .before .scaled-log .ensures .0 t) (c .chance .ensures w)
+unfolding heatProbitBy
+returns c = rw (← c .before .scaled-log .ensures .0) (c .chance .ensures)
 
 pub heat-chance-spec : {M : Type 1} → statement M
 heat-chance-spec =

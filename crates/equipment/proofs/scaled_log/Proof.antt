@@ -25,7 +25,7 @@ div-result : tie.Need-div-result
 div-result c = search needs
 
 returns : tie.Need-returns
-returns c = (λ t. cc (c .log256 .ensures .0 t), omega (arith, product-le c, div-le-self (c .before .args .factor * c .log256 .result * 693147) (c .before .args .divisor)))
+returns c = (cc (c .log256 .ensures .0), omega (arith, product-le c, div-le-self (c .before .args .factor * c .log256 .result * 693147) (c .before .args .divisor)))
 
 pub scaled-log-spec : {M : Type 1} → statement M
 scaled-log-spec =

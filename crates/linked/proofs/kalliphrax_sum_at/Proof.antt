@@ -3,6 +3,7 @@ use mathlib.Core.Path.{ap, _∙_}
 use Rattle.state.specs.declared.TargetReport.{TargetReport}
 use Rattle.model.specs.Machine.{State, targetIn}
 use borrow.Author.Needs.{needs}
+use Rattle.study.proofs.RunLaws.{target-given}
 use Rattle.linked.proofs.kalliphrax_sum_at.Statement.{statement}
 use Rattle.linked.proofs.kalliphrax_sum_at.Tie as tie
 
@@ -14,7 +15,7 @@ target-requires c κs = search needs
 
 returns : tie.Need-returns
 returns c =
-    ap (λ (r : TargetReport). r .sum) (c .target .ensures)
+    ap (λ (r : TargetReport). r .sum) (target-given (c .target .ensures))
     ∙ ap (λ (s : State). targetIn s (c .before .before .before .args .target) .sum) (c .before .read-in-pieces .ensures)
 
 pub kalliphrax-sum-at-spec : {M : Type 1} → statement M

@@ -3,6 +3,7 @@ use mathlib.Core.Path.{refl, ap}
 use Rattle.numeric.proofs.ChoiceLaws.{ge-case, lt-case}
 use Rattle.model.specs.Machine.{State, fetch, totalsIn}
 use borrow.Author.Needs.{needs}
+use Rattle.study.proofs.RunLaws.{totals-given}
 use Rattle.linked.proofs.kalliphrax_total_of.Statement.{statement}
 use Rattle.linked.proofs.kalliphrax_total_of.Tie as tie
 
@@ -21,7 +22,7 @@ array-read-result c = search needs
 returns : tie.Need-returns
 unfolding fetch
 returns c =
-    let t = c .before .before .totals .ensures in
+    let t = totals-given (c .before .before .totals .ensures) in
     let r = c .before .before .before .read-in-pieces .ensures in
     rw (← ap (λ (s : State). totalsIn (s .core)) r, ← t) (lt-case _ _ _ _ (c .if1 .taken) refl)
 

@@ -6,6 +6,7 @@ use lib.ListN.{length, take}
 use borrow.Author.Needs.{needs}
 use Rattle.model.specs.Machine.{fresh, readAll}
 use Rattle.study.specs.View.{view}
+use Rattle.study.proofs.RunLaws.{piece-read}
 use Rattle.study.proofs.LoopLaws.{read-none, read-next, read-whole}
 use Rattle.linked.proofs.read_in_pieces.Statement.{statement}
 use Rattle.linked.proofs.read_in_pieces.Tie as tie
@@ -45,7 +46,7 @@ loop-again c =
     let v = c .before .before .before .before .before .loop in
     let h = c .before .before .before .before .loop-test .taken in
     let e = c .before .before .before .piece-end .ensures in
-    (omega (arith, e), read-next _ _ _ (c .before .before .before .before .before .before .before .before .args .bytes .now) (v .at) _ (omega (arith, e, h)) (v .inv .1) (c .before .piece .ensures .0))
+    (omega (arith, e), read-next _ _ _ (c .before .before .before .before .before .before .before .before .args .bytes .now) (v .at) _ (omega (arith, e, h)) (v .inv .1) (piece-read (c .before .piece .ensures)))
 
 returns : tie.Need-returns Inv-loop μ-loop
 returns c = let v = c .before .loop in read-whole _ _ (c .before .before .before .before .args .bytes .now) (v .at) (v .inv .1) (c .loop-test .left)

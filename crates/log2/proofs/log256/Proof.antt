@@ -1,12 +1,16 @@
 -- `log2::log256` meets its contract: the number is doubled into the octave of the tables, and its step found there. Assumes nothing.
-use mathlib.Core.Path.{_≡_, sym, _∙_}
+use mathlib.Core.Path.{_≡_, refl}
 use mathlib.Core.Logic.{⊎-elim}
-use Prim.Native.Nat.{ℕ, _+_, _-_, _<_, _≤_}
+use mathlib.Core.List.{List}
+use Prim.Native.Nat.{ℕ, _+_, _-_, _/_, _%_, _^_, _≤_}
+use lib.ListN.{getD}
+use Rattle.numeric.specs.Choice.{ifLt}
 use native.Mathlib.Omega.{arith}
 use lib.Count.{leadingZeros}
 use borrow.Author.Needs.{needs}
-use Rattle.log2.proofs.Laws.{logarithm-small, log-scaled, Scaled, scaled, scaled-few}
-use Rattle.log2.proofs.TableSteps.{at-near, at-before}
+use Rattle.numeric.proofs.ChoiceLaws.{lt-case, ge-case}
+use Rattle.log2.specs.Logarithm.{stepBy, logBy}
+use Rattle.log2.proofs.Laws.{Scaled, scaled, scaled-few}
 use Rattle.log2.proofs.log256.Statement.{statement}
 use Rattle.log2.proofs.log256.Tie as tie
 
@@ -17,7 +21,8 @@ few-at : (c : tie.Else1) → leadingZeros 32 (c .before .args .n) ≤ 30
 few-at c = scaled-few _ _ (omega (arith, c .if1 .left)) (at-n c)
 
 returns : tie.Need-returns
-returns c = (λ t. sym (logarithm-small _ (c .if1 .taken)), omega arith)
+unfolding logBy
+returns c = (lt-case _ _ _ _ (c .if1 .taken) refl, omega arith)
 
 shl-mantissa : tie.Need-shl-mantissa
 shl-mantissa c = omega (arith, at-n c)
@@ -51,21 +56,20 @@ sub-result-2 c =
     let f = few-at (c .before .before .before .before) in
     ⊎-elim (λ w. omega (arith, f, w .1)) (λ w. omega (arith, f, w .1)) (c .before .if2 .came)
 
--- a step taken from the sum, or from its part
-step-less : (a g : ℕ) → 0 < g → a + g - 1 ≡ a + (g - 1)
-step-less a g h = omega arith
-
-none-less : (a : ℕ) → a - 0 ≡ a
-none-less a = omega arith
+-- what the code computes is what the tables give, whatever they are
+by-tables : (t l : List ℕ) (k m a g less : ℕ) → k ≡ m → g ≡ getD l (k / 2 ^ 22 % 512) 0 → less ≡ ifLt k (getD t g 0) 1 0 → a + g - less ≡ stepBy t l a m
+unfolding stepBy
+by-tables t l k m a g less e f h = cc
 
 returns-2 : tie.Need-returns-2
+unfolding logBy
 returns-2 c =
     let e = c .before .before .before .before in
     let q = at-n e in
     let n = c .before .before .before .near-step .ensures in
     ⊎-elim
-    (λ w. (λ t. rw (w .1) (step-less _ _ (n (t .near) .first) ∙ sym (log-scaled _ _ _ _ (q .few) (q .fits) (at-before _ _ _ _ (t .thresholds) (n (t .near)) (omega (arith, q .low, q .fits)) (omega (arith, q .low, q .fits)) (w .0 .taken)))), omega (arith, w .1)))
-    (λ w. (λ t. rw (w .1) (none-less _ ∙ sym (log-scaled _ _ _ _ (q .few) (q .fits) (at-near _ _ _ _ (t .thresholds) (n (t .near)) (omega (arith, q .low, q .fits)) (omega (arith, q .low, q .fits)) (omega (arith, w .0 .left))))), omega (arith, w .1)))
+    (λ w. (ge-case _ _ _ _ (e .if1 .left) (lt-case _ _ _ _ (e .before .fits .n .fits) (by-tables _ _ _ _ _ _ _ (q .fits) n (lt-case _ _ _ _ (w .0 .taken) (w .1)))), omega (arith, w .1)))
+    (λ w. (ge-case _ _ _ _ (e .if1 .left) (lt-case _ _ _ _ (e .before .fits .n .fits) (by-tables _ _ _ _ _ _ _ (q .fits) n (ge-case _ _ _ _ (w .0 .left) (w .1)))), omega (arith, w .1)))
     (c .before .if2 .came)
 
 pub log256-spec : {M : Type 1} → statement M

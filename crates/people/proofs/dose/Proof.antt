@@ -28,7 +28,7 @@ mul-result-3 : tie.Need-mul-result-3
 mul-result-3 c = search needs
 
 returns : tie.Need-returns
-returns c t = cc (c .before .log256 .ensures .0 t, c .log2562 .ensures .0 t)
+returns c = cc (c .before .log256 .ensures .0, c .log2562 .ensures .0)
 
 pub dose-spec : {M : Type 1} → statement M
 dose-spec =

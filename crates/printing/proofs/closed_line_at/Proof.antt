@@ -1,5 +1,6 @@
 -- `printing::closed_line_at` meets its contract. Assumes nothing.
 use mathlib.Core.Path.{_≡_, sym, ap, _∙_}
+use Rattle.study.proofs.RunLaws.{target-given}
 use Rattle.printing.proofs.ListLaws.{closed-first, closed-kind, closed-target, closed-last, closed-past}
 use Rattle.lines.specs.Text.{targetLine}
 use borrow.Author.Needs.{needs}
@@ -37,7 +38,7 @@ target-line-requires c κs = search needs
 
 returns-3 : tie.Need-returns-3
 returns-3 c =
-    (c .target-line .ensures) ∙ ap (targetLine _) (c .before .target .ensures) ∙ sym (closed-target _ _ _ (search needs) (search needs))
+    (c .target-line .ensures) ∙ ap (targetLine _) (target-given (c .before .target .ensures)) ∙ sym (closed-target _ _ _ (search needs) (search needs))
 
 unjudged-line-requires : tie.Need-unjudged-line-requires
 unjudged-line-requires c κs = search needs

@@ -4,6 +4,7 @@ use Prim.Native.Nat.{_+_}
 use lib.ListN.{length}
 use Rattle.numeric.specs.Choice.{ifEq}
 use Rattle.state.specs.declared.Totals.{Totals}
+use Rattle.study.proofs.RunLaws.{totals-given}
 use Rattle.printing.proofs.ListLaws.{report-seven, report-other, lines-length}
 use borrow.Author.Needs.{needs}
 use Rattle.printing.proofs.report_length.Statement.{statement}
@@ -21,7 +22,7 @@ count-of-requires c κs = search needs
 
 returns-2 : tie.Need-returns-2
 returns-2 c =
-    (c .count-of .ensures) ∙ ap (λ (t : Totals). ifEq (t .number) 0 (8 + t .targets) 1) (c .before .totals .ensures) ∙ sym (lines-length _ _) ∙ ap length (sym (report-other _ (search needs)))
+    (c .count-of .ensures) ∙ ap (λ (t : Totals). ifEq (t .number) 0 (8 + t .targets) 1) (totals-given (c .before .totals .ensures)) ∙ sym (lines-length _ _) ∙ ap length (sym (report-other _ (search needs)))
 
 pub report-length-spec : {M : Type 1} → statement M
 report-length-spec = tie.close (tie.spec returns totals-requires count-of-requires returns-2)

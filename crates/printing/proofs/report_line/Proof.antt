@@ -5,7 +5,9 @@ use mathlib.Core.List.{List, []}
 use Prim.Native.Nat.{ℕ}
 use lib.ListN.{getD}
 use Rattle.state.specs.declared.Totals.{Totals}
+use Rattle.model.specs.Machine.{targetIn}
 use Rattle.study.specs.View.{view}
+use Rattle.study.proofs.RunLaws.{totals-given}
 use Rattle.printing.specs.Report.{linesOf}
 use borrow.Author.Needs.{needs}
 use Rattle.printing.proofs.report_line.Statement.{statement}
@@ -28,7 +30,7 @@ returns-2 : tie.Need-returns-2
 returns-2 c =
     let a = c .before .before .before .before .before .args in
     (c .line-at .ensures)
-    ∙ ap (λ (t : Totals). getD (linesOf (view (a .t .study)) t) (a .i) []) (c .before .totals .ensures)
+    ∙ ap (λ (t : Totals). getD (linesOf (targetIn (view (a .t .study))) t) (a .i) []) (totals-given (c .before .totals .ensures))
     ∙ ap (λ (l : List (List ℕ)). getD l (a .i) []) (sym (report-other _ (search needs)))
 
 pub report-line-spec : {M : Type 1} → statement M

@@ -1,7 +1,6 @@
 -- `probit::chance` meets its contract: the entry of the probit's hundredth is its chance. Assumes nothing.
-use native.Mathlib.Omega.{arith}
 use borrow.Author.Needs.{needs}
-use Rattle.probit.proofs.Laws.{chance-difference, chance-found}
+use Rattle.probit.proofs.Laws.{chance-difference}
 use Rattle.probit.proofs.chance.Statement.{statement}
 use Rattle.probit.proofs.chance.Tie as tie
 
@@ -21,7 +20,7 @@ element-copy-out-result : tie.Need-element-copy-out-result
 element-copy-out-result c = search needs
 
 returns : tie.Need-returns
-returns c t = rw chance-difference (chance-found _ _ _ t (omega arith))
+returns c = cc (chance-difference _ _ _)
 
 pub chance-spec : {M : Type 1} → statement M
 chance-spec =

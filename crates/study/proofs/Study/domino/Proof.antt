@@ -1,5 +1,6 @@
 -- `study::Study::domino` meets its contract: a study's own lists stand beside the core and the facts. Assumes nothing.
 use borrow.Author.Needs.{needs}
+use Rattle.study.proofs.RunLaws.{domino-called}
 use Rattle.study.proofs.Study.domino.Statement.{statement}
 use Rattle.study.proofs.Study.domino.Tie as tie
 
@@ -13,7 +14,7 @@ returns : tie.Need-returns
 returns c =
     let s = c .before .before .before .before .before .before .before .before .args .self in
     let e = c .before .before .report-domino .ensures in
-    (e .0 (s .pending) (s .stack) (s .sums) (s .margins), e .1 (s .pending) (s .stack) (s .sums) (s .margins))
+    domino-called (e .0 (s .pending) (s .stack) (s .sums) (s .margins)) (e .1 (s .pending) (s .stack) (s .sums) (s .margins))
 
 pub domino-spec : {M : Type 1} → statement M
 domino-spec = tie.close (tie.spec report-domino-requires same-length returns)

@@ -9,6 +9,7 @@ use Rattle.model.specs.Machine.{state, readAll}
 use Rattle.counting.specs.Kinds.{withKinds}
 use Rattle.study.proofs.LoopLaws.{read-none, read-next, read-whole}
 use Rattle.study.proofs.SpanLaws.{stays-wide}
+use Rattle.study.proofs.RunLaws.{piece-called}
 use Rattle.study.proofs.Study.piece.Statement.{statement}
 use Rattle.study.proofs.Study.piece.Tie as tie
 
@@ -60,7 +61,10 @@ returns : tie.Need-returns Inv-loop μ-loop
 returns c =
     let v = c .before .before .before .before .before .before .loop in
     let e = read-whole _ _ (c .before .before .before .before .before .before .before .before .before .before .before .before .before .before .before .args .bytes .now) (v .i) (v .inv .2) (c .before .before .before .before .before .loop-test .left) in
-    (ap (λ (x : Core). state x (v .pending) (v .stack) (v .sums) (v .margins) (v .facts)) (c .with-kinds .ensures) ∙ e, (rw (← e) (c .before .before .before .piece-number .ensures), rw (← e) (c .before .before .piece-place .ensures)))
+    piece-called
+    (ap (λ (x : Core). state x (v .pending) (v .stack) (v .sums) (v .margins) (v .facts)) (c .with-kinds .ensures) ∙ e)
+    (rw (← e) (c .before .before .before .piece-number .ensures))
+    (rw (← e) (c .before .before .piece-place .ensures))
 
 pub piece-spec : {M : Type 1} → statement M
 piece-spec =

@@ -2,6 +2,7 @@
 use Rattle.numeric.proofs.ChoiceLaws.{eq-case, ge-case, lt-case, ne-case}
 use Rattle.model.specs.Machine.{targetIn}
 use borrow.Author.Needs.{needs}
+use Rattle.study.proofs.RunLaws.{target-called}
 use Rattle.study.proofs.Study.target.Statement.{statement}
 use Rattle.study.proofs.Study.target.Tie as tie
 
@@ -10,7 +11,7 @@ refused-target-requires c κs = search needs
 
 returns : tie.Need-returns
 unfolding targetIn
-returns c = eq-case _ _ _ _ (c .before .if1 .taken) (c .refused-target .ensures)
+returns c = target-called (eq-case _ _ _ _ (c .before .if1 .taken) (c .refused-target .ensures))
 
 least-requires : tie.Need-least-requires
 least-requires c κs = search needs
@@ -38,21 +39,21 @@ report-row-requires c κs = search needs
 
 returns-2 : tie.Need-returns-2
 unfolding targetIn
-returns-2 c = ne-case _ _ _ _ (search needs) (eq-case _ _ _ _ (search needs) (lt-case _ _ _ _ (search needs) (c .report-row .ensures)))
+returns-2 c = target-called (ne-case _ _ _ _ (search needs) (eq-case _ _ _ _ (search needs) (lt-case _ _ _ _ (search needs) (c .report-row .ensures))))
 
 refused-target-requires-2 : tie.Need-refused-target-requires-2
 refused-target-requires-2 c κs = search needs
 
 returns-3 : tie.Need-returns-3
 unfolding targetIn
-returns-3 c = ne-case _ _ _ _ (search needs) (eq-case _ _ _ _ (search needs) (ge-case _ _ _ _ (search needs) (c .refused-target2 .ensures)))
+returns-3 c = target-called (ne-case _ _ _ _ (search needs) (eq-case _ _ _ _ (search needs) (ge-case _ _ _ _ (search needs) (c .refused-target2 .ensures))))
 
 refused-target-requires-3 : tie.Need-refused-target-requires-3
 refused-target-requires-3 c κs = search needs
 
 returns-4 : tie.Need-returns-4
 unfolding targetIn
-returns-4 c = ne-case _ _ _ _ (search needs) (ne-case _ _ _ _ (search needs) (c .refused-target3 .ensures))
+returns-4 c = target-called (ne-case _ _ _ _ (search needs) (ne-case _ _ _ _ (search needs) (c .refused-target3 .ensures)))
 
 pub target-spec : {M : Type 1} → statement M
 target-spec =

@@ -1,6 +1,8 @@
 -- `study::records::read_branching` meets its contract, case by case. Assumes nothing.
 use mathlib.Core.Path.{refl}
-use Rattle.model.specs.Machine.{accepted, ownFaultIn, withReading}
+use Rattle.model.specs.Faults.{ownFault}
+use Rattle.model.specs.Machine.{accepted, withReading}
+use Rattle.model.proofs.Follows.{trees-next}
 use Rattle.study.proofs.RecordLaws.{place-refused, own-refused, without-fault}
 use borrow.Author.Needs.{needs}
 use Rattle.study.proofs.records.read_branching.Statement.{statement}
@@ -26,26 +28,26 @@ refused-requires-2 : tie.Need-refused-requires-2
 refused-requires-2 c κs = search needs
 
 returns-2 : tie.Need-returns-2
-unfolding ownFaultIn withReading
+unfolding ownFault withReading
 returns-2 c q s m f =
     let o = c .before .before in
     let w = o .before .before in
     let e = w .before in
     let p = e .before in
-    let own = rw (w .word-at-1 .ensures) at (o .own-branching .ensures) in
+    let own = rw (w .word-at-1 .ensures, ← trees-next) at (o .own-branching .ensures) in
     rw (p .before .before .pre) (own-refused _ _ _ _ (p .place-fault .ensures) (e .if1 .left) own (c .before .if2 .taken) (rw (c .refused2 .ensures) refl))
 
 take-branching-requires : tie.Need-take-branching-requires
 take-branching-requires c κs = search needs
 
 returns-3 : tie.Need-returns-3
-unfolding accepted ownFaultIn
+unfolding accepted ownFault
 returns-3 c q s m f =
     let o = c .before .before .before in
     let w = o .before .before in
     let e = w .before in
     let p = e .before in
-    let own = rw (w .word-at-1 .ensures) at (o .own-branching .ensures) in
+    let own = rw (w .word-at-1 .ensures, ← trees-next) at (o .own-branching .ensures) in
     rw (p .before .before .pre)
     (without-fault _ _ _ _ (p .place-fault .ensures) (e .if1 .left) own (c .before .before .if2 .left) (rw (c .take-branching .ensures .0, c .take-branching .ensures .1, w .word-at-1 .ensures) refl))
 

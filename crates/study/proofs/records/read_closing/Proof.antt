@@ -1,6 +1,7 @@
 -- `study::records::read_closing` meets its contract, case by case. Assumes nothing.
 use mathlib.Core.Path.{refl}
-use Rattle.model.specs.Machine.{accepted, ownFaultIn, withReading}
+use Rattle.model.specs.Faults.{ownFault}
+use Rattle.model.specs.Machine.{accepted, withReading}
 use Rattle.study.proofs.RecordLaws.{place-refused, own-refused, without-fault}
 use borrow.Author.Needs.{needs}
 use Rattle.study.proofs.records.read_closing.Statement.{statement}
@@ -23,7 +24,7 @@ refused-requires-2 : tie.Need-refused-requires-2
 refused-requires-2 c κs = search needs
 
 returns-2 : tie.Need-returns-2
-unfolding ownFaultIn withReading
+unfolding ownFault withReading
 returns-2 c q k s m f =
     let p = c .before .before .before .before in
     rw (p .before .before .pre)
@@ -33,7 +34,7 @@ core-closing-requires : tie.Need-core-closing-requires
 core-closing-requires c κs = search needs
 
 returns-3 : tie.Need-returns-3
-unfolding accepted ownFaultIn
+unfolding accepted ownFault
 returns-3 c q k s m f =
     let p = c .before .before .before .before in
     rw (p .before .before .pre)

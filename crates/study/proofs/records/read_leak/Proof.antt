@@ -1,6 +1,7 @@
 -- `study::records::read_leak` meets its contract, case by case. Assumes nothing.
 use mathlib.Core.Path.{refl}
-use Rattle.model.specs.Machine.{accepted, ownFaultIn, withReading}
+use Rattle.model.specs.Faults.{ownFault}
+use Rattle.model.specs.Machine.{accepted, withReading}
 use Rattle.study.proofs.RecordLaws.{place-refused, own-refused, without-fault}
 use borrow.Author.Needs.{needs}
 use Rattle.study.proofs.records.read_leak.Statement.{statement}
@@ -29,7 +30,7 @@ refused-requires-2 : tie.Need-refused-requires-2
 refused-requires-2 c κs = search needs
 
 returns-2 : tie.Need-returns-2
-unfolding ownFaultIn withReading
+unfolding ownFault withReading
 returns-2 c q s m f =
     let o = c .before .before in
     let l = o .before .before in
@@ -43,7 +44,7 @@ take-leak-requires : tie.Need-take-leak-requires
 take-leak-requires c κs = search needs
 
 returns-3 : tie.Need-returns-3
-unfolding accepted ownFaultIn
+unfolding accepted ownFault
 returns-3 c q s m f =
     let o = c .before .before .before in
     let l = o .before .before in

@@ -1,6 +1,7 @@
 -- `study::records::read_opening` meets its contract, case by case. Assumes nothing.
 use mathlib.Core.Path.{refl}
-use Rattle.model.specs.Machine.{accepted, ownFaultIn, withReading}
+use Rattle.model.specs.Faults.{ownFault}
+use Rattle.model.specs.Machine.{accepted, withReading}
 use Rattle.study.proofs.RecordLaws.{place-refused, without-fault}
 use borrow.Author.Needs.{needs}
 use Rattle.study.proofs.records.read_opening.Statement.{statement}
@@ -23,7 +24,7 @@ core-opening-requires : tie.Need-core-opening-requires
 core-opening-requires c κs = search needs
 
 returns-2 : tie.Need-returns-2
-unfolding accepted ownFaultIn
+unfolding accepted ownFault
 returns-2 c q k s m f =
     let p = c .before .before .before in
     rw (p .before .before .pre)

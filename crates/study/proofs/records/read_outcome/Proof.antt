@@ -1,7 +1,8 @@
 -- `study::records::read_outcome` meets its contract, case by case. Assumes nothing.
 use mathlib.Core.Path.{refl, ap}
 use Rattle.state.specs.declared.Core.{Core}
-use Rattle.model.specs.Machine.{state, accepted, ownFaultIn, withReading}
+use Rattle.model.specs.Faults.{ownFault}
+use Rattle.model.specs.Machine.{state, accepted, withReading}
 use Rattle.counting.specs.Kinds.{withKinds}
 use Rattle.study.specs.Placing.{placeFault}
 use Rattle.study.proofs.RecordLaws.{place-refused, own-refused, without-fault}
@@ -36,7 +37,7 @@ refused-requires-2 : tie.Need-refused-requires-2
 refused-requires-2 c κs = search needs
 
 returns-2 : tie.Need-returns-2
-unfolding ownFaultIn withReading placeFault
+unfolding ownFault withReading placeFault
 returns-2 c q s m f =
     let o = c .before .before in
     let h = o .before in
@@ -52,7 +53,7 @@ take-outcome-requires : tie.Need-take-outcome-requires
 take-outcome-requires c κs = search needs
 
 returns-3 : tie.Need-returns-3
-unfolding accepted ownFaultIn placeFault
+unfolding accepted ownFault placeFault
 returns-3 c q s m f =
     let o = c .before .before .before in
     let h = o .before in

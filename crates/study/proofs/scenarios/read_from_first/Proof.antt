@@ -49,9 +49,9 @@ loop-holds c =
     let l = g .bytes .now in
     let z : lengthOf l ≡ 0 + lengthOf l = omega arith in (
       λ e. (
-        standing-start l (s .pre .2),
+        standing-start l (s .pre .1),
+        s .pre .2,
         s .pre .3,
-        s .pre .4,
         λ q.
             subst (λ (x : ℕ). Reached (state (withKinds (core (atFirst (lengthOf l)) (g .c .counts) (g .c .branch) (g .c .tally)) (g .kinds .now)) q (g .stack .now) (g .sums .now) (g .margins .now) (g .facts .now)) (state (withKinds (core (reading 0 (lengthOf l) x 0 0 0) (g .c .counts) (g .c .branch) (g .c .tally)) (g .kinds .now)) q (g .stack .now) (g .sums .now) (g .margins .now) (g .facts .now)) l 0)
             z (reached-start _ l),
@@ -75,7 +75,7 @@ read-one-requires c κs =
     let w = v .inv .0 (i .loop-test .taken) in
     let s = i .before .before .before .before .before .before .before in
     let l = s .args .bytes .now in
-    (s .pre .0, s .pre .1, rw (rest-is l (v .at)) (omega (arith, length-drop (v .at) l, w .0 .room)), rw (rest-is l (v .at)) (w .1), rw (rest-is l (v .at)) (w .2), rw (rest-is l (v .at)) (omega (arith, length-drop (v .at) l, w .0 .room, s .good)))
+    (s .pre .0, rw (rest-is l (v .at)) (omega (arith, length-drop (v .at) l, w .0 .room)), rw (rest-is l (v .at)) (w .1), rw (rest-is l (v .at)) (w .2), rw (rest-is l (v .at)) (omega (arith, length-drop (v .at) l, w .0 .room, s .good)))
 
 add-at : tie.Need-add-at Inv-loop μ-loop
 add-at c = omega (arith, records-at (c .before .before .before .before .before .before) .there, c .before .before .before .before .before .before .before .before .before .before .before .before .before .before .before .before .before .before .before .before .good)

@@ -5,6 +5,7 @@ use native.Mathlib.Omega.{arith}
 use lib.ListN.{length}
 use Rattle.state.specs.declared.Core.{Core}
 use Rattle.counting.specs.Kinds.{withKinds}
+use Rattle.effects.proofs.Laws.{right-tables}
 use Rattle.study.proofs.SpanLaws.{EnteredEither, either-wide, either-there, either-read, either-byte}
 use borrow.Author.Needs.{needs}
 use Rattle.study.proofs.whole.read_on.Statement.{statement}
@@ -71,7 +72,7 @@ read-records-requires : tie.Need-read-records-requires
 read-records-requires c κs =
     let a = c .before .before .before .before .before .before .before .before .before .before .before .before .before .before .before .before .before .before .before .before .before .before in
     let e = entered-at (c .before .before .before .before .before .before .before .before .before .before .before .before .before .before .before .before) in
-    (record { thresholds = c .before .before .before .before .before .before .before .before .before .before .before .before .before .thresholds .ensures; near = c .before .before .before .before .before .before .before .before .before .before .before .before .near-steps .ensures }, c .before .before .before .before .before .before .before .before .before .before .before .rows .ensures, either-wide (c .before .before .before .before .before .before .before .before .before .before .before .before .before .before .before .before .before .before .before .next-here .result) _ (a .args .bytes .now) (c .before .before .before .before .before .before .before .before .before .before .before .before .before .before .before .before .enter .last .1 .1 .1 .0) _ (a .args .from) (e .next) (e .stays ∙ a .pre .1) (c .before .before .before .before .before .before .before .before .source .ensures))
+    (right-tables _ _ _ record { thresholds = c .before .before .before .before .before .before .before .before .before .before .before .before .before .thresholds .ensures; near = c .before .before .before .before .before .before .before .before .before .before .before .before .near-steps .ensures } (c .before .before .before .before .before .before .before .before .before .before .before .rows .ensures), either-wide (c .before .before .before .before .before .before .before .before .before .before .before .before .before .before .before .before .before .before .before .next-here .result) _ (a .args .bytes .now) (c .before .before .before .before .before .before .before .before .before .before .before .before .before .before .before .before .enter .last .1 .1 .1 .0) _ (a .args .from) (e .next) (e .stays ∙ a .pre .1) (c .before .before .before .before .before .before .before .before .source .ensures))
 
 clear-requires : tie.Need-clear-requires
 clear-requires c κs = search needs

@@ -31,7 +31,7 @@ next-at : (c : tie.Then1 Inv-loop μ-loop) → Next (c .before .before .before .
 next-at c = rw (rest-is (c .before .before .before .before .before .before .before .before .before .before .before .before .before .before .before .args .bytes .now) (c .before .before .before .before .before .before .before .before .before .before .before .before .before .loop .at + c .before .before .before .before .before .read-some .result .at)) at (c .before .next-here .ensures (c .if1 .taken))
 
 loop-holds : tie.Need-loop-holds Inv-loop μ-loop
-loop-holds c = (standing-start _ (c .before .pre .2), λ q. reached-start _ _)
+loop-holds c = (standing-start _ (c .before .pre .1), λ q. reached-start _ _)
 
 sub-loop : tie.Need-sub-loop Inv-loop μ-loop
 sub-loop c = omega (arith, c .loop .inv .0 .room)
@@ -49,7 +49,7 @@ read-some-requires : tie.Need-read-some-requires Inv-loop μ-loop
 read-some-requires c κs =
     let v = c .before .before .before .before .before .before .before .loop in
     let l = c .before .before .before .before .before .before .before .before .before .args .bytes .now in
-    (c .before .before .before .before .before .before .before .before .before .pre .0, c .before .before .before .before .before .before .before .before .before .pre .1, rw (rest-is l (v .at)) (omega (arith, length-drop (v .at) l, v .inv .0 .room)))
+    (c .before .before .before .before .before .before .before .before .before .pre .0, rw (rest-is l (v .at)) (omega (arith, length-drop (v .at) l, v .inv .0 .room)))
 
 add-at : tie.Need-add-at Inv-loop μ-loop
 add-at c = omega (arith, records-at (c .before .before) .there, c .before .before .before .before .before .before .before .before .before .before .before .before .good)
