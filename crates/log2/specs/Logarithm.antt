@@ -40,12 +40,18 @@ pub record StepOf (m k : ℕ) : Type 0 where
   pub low : 2 ^ (31 * 256 + k) ≤ m ^ 256
   pub high : m ^ 256 < 2 ^ (31 * 256 + k + 1)
 
--- every mantissa from 2^31 on whose nine bits below the highest are b lies at step g of its octave or at the one before
+-- every mantissa from 2^31 on whose nine bits below the highest are b lies at step g of its octave or at the one before, and the least of them at the one
+-- before, unless g is the last step
 pub record NearStep (b g : ℕ) : Type 0 where
   pub first : 0 < g
   pub within : g < 256
   pub low : 2 ^ (31 * 256 + (g - 1)) ≤ (2 ^ 31 + b * 2 ^ 22) ^ 256
   pub high : (2 ^ 31 + b * 2 ^ 22 + (2 ^ 22 - 1)) ^ 256 < 2 ^ (31 * 256 + g + 1)
+  pub before : g < 255 → (2 ^ 31 + b * 2 ^ 22) ^ 256 < 2 ^ (31 * 256 + g)
+
+-- so no nine bits have two near steps, and the table is decided entry by entry
+abbrev pub OneNearStep : Type 0
+OneNearStep = (b g h : ℕ) → NearStep b g → NearStep b h → g ≡ h
 
 -- a table with a near step for each nine bits
 unfoldable pub NearSteps : List ℕ → Type 0

@@ -1,13 +1,8 @@
 // A byte more of a record that a piece's end cuts.
 ghost use mathlib.Core.Path.{_≡_};
-ghost use mathlib.Core.List.{List};
-ghost use Prim.Native.Nat.{ℕ, _-_};
-ghost use lib.ListN.{length};
-ghost use Rattle.numeric.specs.Choice.{pick};
-ghost use Rattle.model.specs.Verdict.{decode};
-ghost use Rattle.state.specs.declared.Tally.{Tally};
-ghost use Rattle.model.specs.Machine.{core, state, store, grown, recordRead, cleared, body, step};
-ghost use Rattle.reading.specs.Entering.{readingWith, pendingWith, wholeIn, wholeWith};
+ghost use Prim.Native.Nat.{_-_};
+ghost use Rattle.model.specs.Machine.{core, store, grown};
+ghost use Rattle.reading.specs.Entering.{pendingWith, wholeIn, enteredWith};
 use crate::begin;
 use crate::core_reading;
 use crate::grow;
@@ -34,13 +29,11 @@ pub struct Entered {
     pub whole: bool,
 }
 
-// One byte more of a record that has begun. The totals stay, whatever they are.
+// One byte more of a record that has begun.
 fn enter_more(c: Core, b: u8, p: &mut [u8; 16]) -> Entered
-    ensures { λ r. ⌜ length (now (p .exit)) ≡ length (now (p .entry)) ⌝ }
-    ensures { λ r. ⌜ ((g : Tally → Tally) (k s m f : List ℕ) → body (state (core (c .reading) (c .counts) (c .branch) (g (c .tally))) (now (p .entry)) k s m f) b ≡ pick (r .whole) (cleared (recordRead (state (core (r .core .reading) (r .core .counts) (r .core .branch) (g (r .core .tally))) (now (p .exit)) k s m f) (decode (now (p .exit))))) (state (core (r .core .reading) (r .core .counts) (r .core .branch) (g (r .core .tally))) (now (p .exit)) k s m f)) ⌝ }
     ensures { λ r. ⌜ r .core ≡ core (grown (c .reading)) (c .counts) (c .branch) (c .tally) ⌝ }
-    ensures { λ r. ⌜ now (p .exit) ≡ store 16 (now (p .entry)) (c .reading .have) b ⌝ }
     ensures { λ r. ⌜ r .whole ≡ wholeIn (c .reading) (store 16 (now (p .entry)) (c .reading .have) b) ⌝ }
+    ensures { λ r. ⌜ now (p .exit) ≡ store 16 (now (p .entry)) (c .reading .have) b ⌝ }
 {
     let h = c.reading;
     put_pending(p, h.have, b);
@@ -58,13 +51,10 @@ fn enter_more(c: Core, b: u8, p: &mut [u8; 16]) -> Entered
     }
 }
 
-// One byte more. The totals stay, whatever they are.
+// One byte more.
 pub fn enter_byte(c: Core, b: u8, p: &mut [u8; 16]) -> Entered
-    ensures { λ r. ⌜ length (now (p .exit)) ≡ length (now (p .entry)) ⌝ }
-    ensures { λ r. ⌜ ((g : Tally → Tally) (k s m f : List ℕ) → step (state (core (c .reading) (c .counts) (c .branch) (g (c .tally))) (now (p .entry)) k s m f) b ≡ pick (r .whole) (cleared (recordRead (state (core (r .core .reading) (r .core .counts) (r .core .branch) (g (r .core .tally))) (now (p .exit)) k s m f) (decode (now (p .exit))))) (state (core (r .core .reading) (r .core .counts) (r .core .branch) (g (r .core .tally))) (now (p .exit)) k s m f)) ⌝ }
-    ensures { λ r. ⌜ r .core ≡ core (readingWith (c .reading) b) (c .counts) (c .branch) (c .tally) ⌝ }
+    ensures { λ r. ⌜ r ≡ enteredWith c (now (p .entry)) b ⌝ }
     ensures { λ r. ⌜ now (p .exit) ≡ pendingWith (c .reading) (now (p .entry)) b ⌝ }
-    ensures { λ r. ⌜ r .whole ≡ wholeWith (c .reading) (now (p .entry)) b ⌝ }
 {
     let h = c.reading;
     if h.phase == 0 {

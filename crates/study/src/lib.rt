@@ -1,6 +1,7 @@
 // The study: read in pieces, and reported once it is closed (document 01).
 mod bounds;
 mod following;
+mod into;
 mod pieces;
 mod records;
 mod reports;

@@ -1,10 +1,8 @@
 -- `reading::entering::enter_more` meets its contract, case by case. Assumes nothing.
-use mathlib.Core.Path.{refl, sym}
+use mathlib.Core.Path.{refl}
 use Rattle.numeric.proofs.ChoiceLaws.{gt-case, le-case}
-use Rattle.model.specs.Machine.{body, ended}
 use Rattle.reading.specs.Entering.{wholeIn}
 use borrow.Author.Needs.{needs}
-use Rattle.reading.proofs.EnterLaws.{store-wide}
 use Rattle.reading.proofs.entering.enter_more.Statement.{statement}
 use Rattle.reading.proofs.entering.enter_more.Tie as tie
 
@@ -27,34 +25,22 @@ one-less-requires : tie.Need-one-less-requires
 one-less-requires c κs = search needs
 
 returns : tie.Need-returns
-unfolding body ended wholeIn
+unfolding wholeIn
 returns c =
     let p = c .before .before .before .before .before .before .put-pending .ensures in
     let g = c .before .before .before .before .before .grow .ensures in
-    let d = c .before .before .before .before .core-reading .ensures in
     let b = c .before .before .body-length .ensures in
-    let o = c .before .one-less .ensures in (
-      rw p (store-wide _ _ _),
-      (
-        λ y k s m f. rw (d, ← p, ← g) (sym (le-case _ _ _ _ (rw (← b, ← o) (c .if1 .taken)) refl)),
-        (rw (d, g) refl, (p, rw (← p, ← g) (le-case _ _ _ _ (rw (← b, ← o) (c .if1 .taken)) refl))),
-      ),
-    )
+    let o = c .before .one-less .ensures in
+    (rw (c .before .before .before .before .core-reading .ensures, g) refl, (rw (← p, ← g) (le-case _ _ _ _ (rw (← b, ← o) (c .if1 .taken)) refl), p))
 
 returns-2 : tie.Need-returns-2
-unfolding body ended wholeIn
+unfolding wholeIn
 returns-2 c =
     let p = c .before .before .before .before .before .before .put-pending .ensures in
     let g = c .before .before .before .before .before .grow .ensures in
-    let d = c .before .before .before .before .core-reading .ensures in
     let b = c .before .before .body-length .ensures in
-    let o = c .before .one-less .ensures in (
-      rw p (store-wide _ _ _),
-      (
-        λ y k s m f. rw (d, ← p, ← g) (sym (gt-case _ _ _ _ (rw (← b, ← o) (c .if1 .left)) refl)),
-        (rw (d, g) refl, (p, rw (← p, ← g) (gt-case _ _ _ _ (rw (← b, ← o) (c .if1 .left)) refl))),
-      ),
-    )
+    let o = c .before .one-less .ensures in
+    (rw (c .before .before .before .before .core-reading .ensures, g) refl, (rw (← p, ← g) (gt-case _ _ _ _ (rw (← b, ← o) (c .if1 .left)) refl), p))
 
 pub enter-more-spec : {M : Type 1} → statement M
 enter-more-spec =

@@ -1,7 +1,7 @@
 -- `study::whole::enter` meets its contract, case by case. Assumes nothing.
 use mathlib.Core.Path.{refl, sym, subst, _∙_}
 use lib.Dec.{T}
-use Rattle.counting.specs.Kinds.{tallyWith}
+use Rattle.reading.proofs.EnterLaws.{pending-wide, step-by-parts}
 use borrow.Author.Needs.{needs}
 use Rattle.study.proofs.whole.enter.Statement.{statement}
 use Rattle.study.proofs.whole.enter.Tie as tie
@@ -19,7 +19,11 @@ enter-byte-requires : tie.Need-enter-byte-requires
 enter-byte-requires c κs = search needs
 
 returns-2 : tie.Need-returns-2
-returns-2 c = (c .enter-byte .ensures .0, (λ z. absurd (subst T (sym z ∙ c .before .before .before .if1 .left) tt), λ z l. c .enter-byte .ensures .1 .0 (tallyWith l)))
+returns-2 c =
+    let e = c .enter-byte .ensures in (
+      rw (e .1) (pending-wide _ _ _),
+      (λ z. absurd (subst T (sym z ∙ c .before .before .before .if1 .left) tt), λ z l k s m f. rw (e .0, e .1) (step-by-parts _ _ k s m f _)),
+    )
 
 pub enter-spec : {M : Type 1} → statement M
 enter-spec =
