@@ -35,3 +35,4 @@ pub mod Closing
 pub mod OrderLaws
 pub mod StateBounds
 pub mod FarBelowLaws
+pub mod RunLaws

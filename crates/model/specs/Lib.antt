@@ -13,3 +13,4 @@ pub mod Verdict
 pub mod Calls
 pub mod Machine
 pub mod MachineTheorems
+pub mod Runs
