@@ -4,7 +4,7 @@ mod counts;
 mod tallies;
 
 ghost use mathlib.Core.Path.{_≡_};
-ghost use Rattle.model.specs.Machine.{core, taken, oneRecord, oneTarget, oneLeak, leakBranch, branchedBranch, outcomeBranch, studyTally, outcomeTally, frequencyOf};
+ghost use Rattle.model.specs.Machine.{core, openPhase, closedPhase, taken, oneRecord, oneTarget, oneLeak, leakBranch, branchedBranch, outcomeBranch, studyTally, outcomeTally, frequencyOf};
 ghost use Rattle.counting.specs.Kinds.{withKinds};
 use branches::enter_branching;
 use branches::enter_leak;
@@ -14,15 +14,16 @@ use counts::count_record;
 use counts::count_target;
 use counts::take;
 use state::Core;
+use state::phase;
 use tallies::grow_kind;
 pub use tallies::kinds_of;
 use tallies::tally_study;
 use tallies::tally_with;
 
 pub fn core_opening(c: Core, number: u32) -> Core
-    ensures { λ r. ⌜ r ≡ core (taken (c .reading) 0) (oneRecord (c .counts)) (c .branch) (studyTally (c .tally) number) ⌝ }
+    ensures { λ r. ⌜ r ≡ core (taken (c .reading) openPhase) (oneRecord (c .counts)) (c .branch) (studyTally (c .tally) number) ⌝ }
 {
-    let h = take(c.reading, 0);
+    let h = take(c.reading, phase::OPEN);
     let k = count_record(c.counts);
     let b = c.branch;
     let y = tally_study(c.tally, number);
@@ -35,9 +36,9 @@ pub fn core_opening(c: Core, number: u32) -> Core
 }
 
 pub fn core_target(c: Core) -> Core
-    ensures { λ r. ⌜ r ≡ core (taken (c .reading) 0) (oneTarget (c .counts)) (c .branch) (c .tally) ⌝ }
+    ensures { λ r. ⌜ r ≡ core (taken (c .reading) openPhase) (oneTarget (c .counts)) (c .branch) (c .tally) ⌝ }
 {
-    let h = take(c.reading, 0);
+    let h = take(c.reading, phase::OPEN);
     let k = count_target(c.counts);
     let b = c.branch;
     let y = c.tally;
@@ -50,9 +51,9 @@ pub fn core_target(c: Core) -> Core
 }
 
 pub fn core_leak(c: Core, number: u32, frequency: u64) -> Core
-    ensures { λ r. ⌜ r ≡ core (taken (c .reading) 0) (oneLeak (c .counts) number frequency) (leakBranch (c .branch) frequency) (c .tally) ⌝ }
+    ensures { λ r. ⌜ r ≡ core (taken (c .reading) openPhase) (oneLeak (c .counts) number frequency) (leakBranch (c .branch) frequency) (c .tally) ⌝ }
 {
-    let h = take(c.reading, 0);
+    let h = take(c.reading, phase::OPEN);
     let k = count_leak(c.counts, number, frequency);
     let b = enter_leak(c.branch, frequency);
     let y = c.tally;
@@ -65,9 +66,9 @@ pub fn core_leak(c: Core, number: u32, frequency: u64) -> Core
 }
 
 pub fn core_branching(c: Core) -> Core
-    ensures { λ r. ⌜ r ≡ core (taken (c .reading) 0) (oneRecord (c .counts)) (branchedBranch (c .branch)) (c .tally) ⌝ }
+    ensures { λ r. ⌜ r ≡ core (taken (c .reading) openPhase) (oneRecord (c .counts)) (branchedBranch (c .branch)) (c .tally) ⌝ }
 {
-    let h = take(c.reading, 0);
+    let h = take(c.reading, phase::OPEN);
     let k = count_record(c.counts);
     let b = enter_branching(c.branch);
     let y = c.tally;
@@ -81,11 +82,11 @@ pub fn core_branching(c: Core) -> Core
 
 // The outcome takes the next tree, as it is packed. The lent array has the totals of the kinds; those in the core are old, and stay.
 pub fn core_outcome(c: Core, tree: u64, kind: u8, effects: u16, kinds: &mut [u64; 6]) -> Core
-    ensures { λ r. ⌜ withKinds r (now (kinds .exit)) ≡ core (taken (c .reading) 0) (oneRecord (c .counts)) (outcomeBranch (c .branch) tree kind effects) (outcomeTally (withKinds c (now (kinds .entry)) .tally) kind (frequencyOf tree)) ⌝ }
+    ensures { λ r. ⌜ withKinds r (now (kinds .exit)) ≡ core (taken (c .reading) openPhase) (oneRecord (c .counts)) (outcomeBranch (c .branch) tree kind effects) (outcomeTally (withKinds c (now (kinds .entry)) .tally) kind (frequencyOf tree)) ⌝ }
     ensures { λ r. ⌜ r .tally ≡ c .tally ⌝ }
 {
     let old = c.tally;
-    let h = take(c.reading, 0);
+    let h = take(c.reading, phase::OPEN);
     let k = count_record(c.counts);
     let b = enter_outcome(c.branch, tree, kind, effects);
     grow_kind(kinds, kind, tree / 16);
@@ -98,9 +99,9 @@ pub fn core_outcome(c: Core, tree: u64, kind: u8, effects: u16, kinds: &mut [u64
 }
 
 pub fn core_closing(c: Core) -> Core
-    ensures { λ r. ⌜ r ≡ core (taken (c .reading) 1) (oneRecord (c .counts)) (c .branch) (c .tally) ⌝ }
+    ensures { λ r. ⌜ r ≡ core (taken (c .reading) closedPhase) (oneRecord (c .counts)) (c .branch) (c .tally) ⌝ }
 {
-    let h = take(c.reading, 1);
+    let h = take(c.reading, phase::CLOSED);
     let k = count_record(c.counts);
     let b = c.branch;
     let y = c.tally;

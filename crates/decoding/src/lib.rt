@@ -3,31 +3,32 @@ ghost use mathlib.Core.Path.{_≡_};
 ghost use Prim.Native.Nat.{_+_, _*_, _<_};
 ghost use lib.ListN.{getD};
 ghost use Rattle.model.specs.Verdict.{bodyLength, field, factsAt};
+use state::record;
 use terms::Target;
 
 // The length of a kind's body; 0 for an unknown kind.
 pub fn body_length(kind: u8) -> u8
     ensures { λ r. ⌜ r ≡ bodyLength kind ⌝ }
 {
-    if kind == 1 {
+    if kind == record::OPENING {
         return 4;
     }
-    if kind == 2 {
+    if kind == record::TARGET {
         return 8;
     }
-    if kind == 3 {
+    if kind == record::LEAK {
         return 12;
     }
-    if kind == 4 {
+    if kind == record::BRANCHING {
         return 4;
     }
-    if kind == 5 {
+    if kind == record::OUTCOME {
         return 3;
     }
-    if kind == 6 {
+    if kind == record::EFFECT {
         return 8;
     }
-    if kind == 7 {
+    if kind == record::CLOSING {
         return 12;
     }
     0

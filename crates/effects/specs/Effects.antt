@@ -5,6 +5,8 @@ use Prim.Native.Nat.{ℕ, zero, suc, _+_, _*_}
 use lib.ListN.{getD, drop}
 use Rattle.numeric.specs.Choice.{pick, ifEq, ifLt}
 use Rattle.state.specs.declared.Branch.{Branch}
+use Rattle.model.specs.Bounds.{mostTargets}
+use Rattle.model.specs.Format.{effectKind}
 use Rattle.model.specs.Faults.{effectFault}
 use Rattle.model.specs.Verdict.{field}
 use Rattle.model.specs.Machine.{upTo, most32, store, rowOf, rowAfter}
@@ -25,9 +27,9 @@ figures x u s m f = record { next = x; unjudged = u; sums = s; margins = m; fact
 unfoldable pub afterEffect : Judge → Branch → Figures → List ℕ → Figures
 afterEffect judge b g p =
     figures (field p 1 2 + 1) (upTo most32 (g .unjudged) (pick (judgedIn judge (g .facts) (b .kind) p .judged) 0 1))
-    (store 256 (g .sums) (field p 1 2) (rowAfter (rowOf (g .sums) (g .margins) (g .facts) (field p 1 2)) b (judgedIn judge (g .facts) (b .kind) p .chance) .sum))
-    (store 256 (g .margins) (field p 1 2) (rowAfter (rowOf (g .sums) (g .margins) (g .facts) (field p 1 2)) b (judgedIn judge (g .facts) (b .kind) p .chance) .margin))
-    (store 256 (g .facts) (field p 1 2) (rowAfter (rowOf (g .sums) (g .margins) (g .facts) (field p 1 2)) b (judgedIn judge (g .facts) (b .kind) p .chance) .facts))
+    (store mostTargets (g .sums) (field p 1 2) (rowAfter (rowOf (g .sums) (g .margins) (g .facts) (field p 1 2)) b (judgedIn judge (g .facts) (b .kind) p .chance) .sum))
+    (store mostTargets (g .margins) (field p 1 2) (rowAfter (rowOf (g .sums) (g .margins) (g .facts) (field p 1 2)) b (judgedIn judge (g .facts) (b .kind) p .chance) .margin))
+    (store mostTargets (g .facts) (field p 1 2) (rowAfter (rowOf (g .sums) (g .margins) (g .facts) (field p 1 2)) b (judgedIn judge (g .facts) (b .kind) p .chance) .facts))
 
 -- after the first n effects of some bytes; an effect has nine
 unfoldable pub afterEffects : Judge → Branch → Figures → List ℕ → ℕ → Figures
@@ -37,7 +39,7 @@ afterEffects judge b g l (suc n) = afterEffect judge b (afterEffects judge b g l
 -- whether some bytes begin with an effect that has no fault of its own
 unfoldable pub sound : ℕ → ℕ → ℕ → List ℕ → Bool
 sound targets kind next p =
-    ifEq (getD p 0 0) 6
+    ifEq (getD p 0 0) effectKind
     (ifEq (effectFault targets kind next (field p 1 2) (field p 3 4) (field p 7 2)) 0 true false)
     false
 

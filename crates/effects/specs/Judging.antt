@@ -7,6 +7,7 @@ use Rattle.terms.specs.Terms.{seconds}
 use Rattle.terms.specs.declared.Judged.{Judged}
 use Rattle.terms.specs.declared.Target.{Target}
 use Rattle.vulnerability.specs.Effect.{effectBy, effectOn}
+use Rattle.model.specs.Bounds.{mostTargets}
 use Rattle.model.specs.Verdict.{field}
 use Rattle.model.specs.Machine.{fetch, unpackedFacts}
 
@@ -24,7 +25,7 @@ RightTables table near rows = byTables table near rows ≡ effectOn seconds
 
 -- on target i, in an outcome of kind k
 abbrev pub effectAt : Judge → List ℕ → ℕ → ℕ → ℕ → ℕ → Judged
-effectAt judge facts k i q d = judge (unpackedFacts (fetch 256 facts i)) k q d
+effectAt judge facts k i q d = judge (unpackedFacts (fetch mostTargets facts i)) k q d
 
 -- by its record, on the target that it names
 abbrev pub judgedIn : Judge → List ℕ → ℕ → List ℕ → Judged

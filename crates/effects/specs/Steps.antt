@@ -5,6 +5,7 @@ use mathlib.Core.List.{List}
 use Prim.Native.Nat.{ℕ, _+_}
 use Rattle.numeric.specs.Choice.{pick}
 use Rattle.state.specs.declared.Branch.{Branch}
+use Rattle.model.specs.Bounds.{mostTargets}
 use Rattle.model.specs.Verdict.{field}
 use Rattle.model.specs.Machine.{store, rowOf, rowAfter}
 use Rattle.effects.specs.Judging.{Judge, effectAt}
@@ -13,9 +14,9 @@ use Rattle.effects.specs.Effects.{sound}
 -- an effect on target i: the figures before it, 1 where no rule judged it, and the figures after it
 pub record Added (judge : Judge) (b : Branch) (i q d : ℕ) (s m f : List ℕ) (missed : ℕ) (s' m' f' : List ℕ) : Type 0 where
   pub judging : missed ≡ pick (effectAt judge f (b .kind) i q d .judged) 0 1
-  pub sums : s' ≡ store 256 s i (rowAfter (rowOf s m f i) b (effectAt judge f (b .kind) i q d .chance) .sum)
-  pub margins : m' ≡ store 256 m i (rowAfter (rowOf s m f i) b (effectAt judge f (b .kind) i q d .chance) .margin)
-  pub facts : f' ≡ store 256 f i (rowAfter (rowOf s m f i) b (effectAt judge f (b .kind) i q d .chance) .facts)
+  pub sums : s' ≡ store mostTargets s i (rowAfter (rowOf s m f i) b (effectAt judge f (b .kind) i q d .chance) .sum)
+  pub margins : m' ≡ store mostTargets m i (rowAfter (rowOf s m f i) b (effectAt judge f (b .kind) i q d .chance) .margin)
+  pub facts : f' ≡ store mostTargets f i (rowAfter (rowOf s m f i) b (effectAt judge f (b .kind) i q d .chance) .facts)
 
 -- the effect that some bytes begin with, where the next one may name a target from x on: it is taken, or it has a fault and all stays
 pub record Taking (judge : Judge) (targets : ℕ) (b : Branch) (x : ℕ) (p s m f : List ℕ) (missed : ℕ) (s' m' f' : List ℕ) : Type 0 where

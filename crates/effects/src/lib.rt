@@ -5,9 +5,11 @@ ghost use mathlib.Core.Logic.{_⊎_};
 ghost use Prim.Native.Nat.{_+_, _-_, _/_, _<_, _≤_, min};
 ghost use lib.ListN.{length, getD};
 ghost use Rattle.terms.specs.Scales.{Scales};
-ghost use Rattle.terms.specs.Terms.{fireball, flashFire, seconds};
+ghost use Rattle.terms.specs.Terms.{fireball, flashFire, people, atmospheric, pressurised, pipe, seconds};
 ghost use Rattle.vulnerability.specs.Effect.{effectBy};
 ghost use Rattle.numeric.specs.Choice.{ifEq};
+ghost use Rattle.model.specs.Bounds.{mostTargets};
+ghost use Rattle.model.specs.Format.{effectKind};
 ghost use Rattle.model.specs.Faults.{effectFault};
 ghost use Rattle.model.specs.Machine.{upTo, most32, most64, store, markedFacts};
 ghost use Rattle.numeric.specs.Share.{shareOf};
@@ -15,6 +17,10 @@ ghost use Rattle.effects.specs.Judging.{byTables};
 ghost use Rattle.effects.specs.Effects.{figures, afterEffects, takenOf};
 ghost use Rattle.effects.specs.Steps.{Added, Taking, nextIn};
 use state::Branch;
+use state::MOST_TARGETS;
+use state::record;
+use terms::class;
+use terms::outcome;
 
 // How many effects were taken, the least target that the next one may name, and the effects of the study so far that no rule judged.
 pub struct Taken {
@@ -52,39 +58,43 @@ fn reach(most: u32, len: usize) -> usize
 
 // The targets that have a row.
 fn with_row(targets: u16) -> u16
-    ensures { λ r. ⌜ r ≡ min targets 256 ⌝ }
+    ensures { λ r. ⌜ r ≡ min targets mostTargets ⌝ }
 {
-    if targets < 256 { targets } else { 256 }
+    if targets < MOST_TARGETS {
+        targets
+    } else {
+        MOST_TARGETS
+    }
 }
 
 // Whether a fire has a rule for targets of a class: places of people, atmospheric vessels and pipes.
 fn burns(class: u8) -> bool
-    ensures { λ r. ⌜ (r ≡ false → (class ≡ 0 → ⊥) × (class ≡ 1 → ⊥) × (class ≡ 5 → ⊥)) ⌝ }
-    ensures { λ r. ⌜ (r ≡ true → (class < 2) ⊎ (class ≡ 5)) ⌝ }
+    ensures { λ r. ⌜ (r ≡ false → (class ≡ people → ⊥) × (class ≡ atmospheric → ⊥) × (class ≡ pipe → ⊥)) ⌝ }
+    ensures { λ r. ⌜ (r ≡ true → (class < pressurised) ⊎ (class ≡ pipe)) ⌝ }
 {
-    if class == 0 {
+    if class == class::PEOPLE {
         return true;
     }
-    if class == 1 {
+    if class == class::ATMOSPHERIC {
         return true;
     }
-    if class == 5 {
+    if class == class::PIPE {
         return true;
     }
     false
 }
 
 fn add_margin(b: Branch, i: usize, margins: &mut [u32; 256])
-    requires { ⌜ i < 256 ⌝ }
-    ensures { λ _. ⌜ now (margins .exit) ≡ store 256 (now (margins .entry)) i (upTo most32 (getD (now (margins .entry)) i 0) (b .above + 1)) ⌝ }
+    requires { ⌜ i < mostTargets ⌝ }
+    ensures { λ _. ⌜ now (margins .exit) ≡ store mostTargets (now (margins .entry)) i (upTo most32 (getD (now (margins .entry)) i 0) (b .above + 1)) ⌝ }
 {
     margins[i] = rows::margin_after(margins[i], b.above);
 }
 
 // The facts of a target are written where they change alone.
 fn put_facts(i: usize, known: u64, after: u64, facts: &mut [u64; 256])
-    requires { ⌜ (i < 256) × (known ≡ getD (now facts) i 0) ⌝ }
-    ensures { λ _. ⌜ now (facts .exit) ≡ store 256 (now (facts .entry)) i after ⌝ }
+    requires { ⌜ (i < mostTargets) × (known ≡ getD (now facts) i 0) ⌝ }
+    ensures { λ _. ⌜ now (facts .exit) ≡ store mostTargets (now (facts .entry)) i after ⌝ }
 {
     if after != known {
         facts[i] = after;
@@ -100,9 +110,9 @@ fn add_chance(
     sums: &mut [u64; 256],
     facts: &mut [u64; 256],
 )
-    requires { ⌜ (i < 256) × (known ≡ getD (now facts) i 0) ⌝ }
-    ensures { λ _. ⌜ now (sums .exit) ≡ store 256 (now (sums .entry)) i (upTo most64 (getD (now (sums .entry)) i 0) (shareOf (b .frequency) chance)) ⌝ }
-    ensures { λ _. ⌜ now (facts .exit) ≡ store 256 (now (facts .entry)) i (markedFacts known chance (b .leak)) ⌝ }
+    requires { ⌜ (i < mostTargets) × (known ≡ getD (now facts) i 0) ⌝ }
+    ensures { λ _. ⌜ now (sums .exit) ≡ store mostTargets (now (sums .entry)) i (upTo most64 (getD (now (sums .entry)) i 0) (shareOf (b .frequency) chance)) ⌝ }
+    ensures { λ _. ⌜ now (facts .exit) ≡ store mostTargets (now (facts .entry)) i (markedFacts known chance (b .leak)) ⌝ }
 {
     sums[i] = rows::sum_after(sums[i], b.frequency, chance);
     put_facts(i, known, rows::mark(known, chance, b.leak), facts);
@@ -128,7 +138,7 @@ fn fire_row(
     margins: &mut [u32; 256],
     facts: &mut [u64; 256],
 ) -> u64
-    requires { ⌜ (i < 256) × (b .kind ≤ fireball) ⌝ }
+    requires { ⌜ (i < mostTargets) × (b .kind ≤ fireball) ⌝ }
     ensures { λ r. ⌜ Added (byTables (now (table .entry)) (now (near .entry)) (now (rows .entry))) b i q d (now (sums .entry)) (now (margins .entry)) (now (facts .entry)) r (now (sums .exit)) (now (margins .exit)) (now (facts .exit)) ⌝ }
     ensures { λ r. ⌜ r ≤ 1 ⌝ }
 {
@@ -136,7 +146,7 @@ fn fire_row(
     let known = facts[i];
     let sum = as_kept(sums[i]);
     let target = rows::unpack_facts(known);
-    if b.kind == 0 {
+    if b.kind == outcome::NO_EFFECT {
         return 0;
     }
     if burns(target.class) {
@@ -144,7 +154,7 @@ fn fire_row(
         add_chance(b, i, known, chance, sums, facts);
         return 0;
     }
-    if target.class <= 4 { 1 } else { 0 }
+    if target.class <= class::MACHINE { 1 } else { 0 }
 }
 
 // That of a flash fire, which harms people alone.
@@ -157,14 +167,14 @@ fn flash_row(
     margins: &mut [u32; 256],
     facts: &mut [u64; 256],
 )
-    requires { ⌜ (i < 256) × (b .kind ≡ flashFire) ⌝ }
+    requires { ⌜ (i < mostTargets) × (b .kind ≡ flashFire) ⌝ }
     ensures { λ _. ⌜ ((s : Scales) → Added (effectBy s seconds) b i q d (now (sums .entry)) (now (margins .entry)) (now (facts .entry)) 0 (now (sums .exit)) (now (margins .exit)) (now (facts .exit))) ⌝ }
 {
     add_margin(b, i, margins);
     let known = facts[i];
     let sum = as_kept(sums[i]);
     let target = rows::unpack_facts(known);
-    if target.class == 0 {
+    if target.class == class::PEOPLE {
         let chance = vulnerability::flash(target, q);
         add_chance(b, i, known, chance, sums, facts);
     }
@@ -183,14 +193,14 @@ fn blast_row(
     margins: &mut [u32; 256],
     facts: &mut [u64; 256],
 )
-    requires { ⌜ (i < 256) × (flashFire < b .kind) ⌝ }
+    requires { ⌜ (i < mostTargets) × (flashFire < b .kind) ⌝ }
     ensures { λ _. ⌜ Added (byTables (now (table .entry)) (now (near .entry)) (now (rows .entry))) b i q d (now (sums .entry)) (now (margins .entry)) (now (facts .entry)) 0 (now (sums .exit)) (now (margins .exit)) (now (facts .exit)) ⌝ }
 {
     add_margin(b, i, margins);
     let known = facts[i];
     let sum = as_kept(sums[i]);
     let target = rows::unpack_facts(known);
-    if b.kind == 5 {
+    if b.kind == outcome::EXPLOSION {
         let chance = vulnerability::blast(table, near, rows, target, q);
         add_chance(b, i, known, chance, sums, facts);
     }
@@ -209,7 +219,7 @@ fn past_rows(targets: u16, kind: u8, next: u32, t: u16, q: u32, d: u16) -> Step
     Step { next: 0, missed: 0 }
 }
 
-// The effect that the bytes begin with, if it has no fault of its own, in an outcome of each form. Of the declared targets at most 256 have a row.
+// The effect that the bytes begin with, if it has no fault of its own, in an outcome of each form. Of the declared targets at most MOST_TARGETS have a row.
 fn fire(
     table: &[u32; 256],
     near: &[u8; 512],
@@ -223,7 +233,7 @@ fn fire(
     margins: &mut [u32; 256],
     facts: &mut [u64; 256],
 ) -> Step
-    requires { ⌜ (limit ≡ min targets 256) × (getD (now p) 0 0 ≡ 6) × (b .kind ≤ fireball) ⌝ }
+    requires { ⌜ (limit ≡ min targets mostTargets) × (getD (now p) 0 0 ≡ effectKind) × (b .kind ≤ fireball) ⌝ }
     ensures { λ r. ⌜ (r .next ≡ nextIn targets b next (now (p .entry))) × (r .missed ≤ 1) ⌝ }
     ensures { λ r. ⌜ Taking (byTables (now (table .entry)) (now (near .entry)) (now (rows .entry))) targets b next (now (p .entry)) (now (sums .entry)) (now (margins .entry)) (now (facts .entry)) (r .missed) (now (sums .exit)) (now (margins .exit)) (now (facts .exit)) ⌝ }
 {
@@ -250,7 +260,7 @@ fn flash(
     margins: &mut [u32; 256],
     facts: &mut [u64; 256],
 ) -> Step
-    requires { ⌜ (limit ≡ min targets 256) × (getD (now p) 0 0 ≡ 6) × (b .kind ≡ flashFire) ⌝ }
+    requires { ⌜ (limit ≡ min targets mostTargets) × (getD (now p) 0 0 ≡ effectKind) × (b .kind ≡ flashFire) ⌝ }
     ensures { λ r. ⌜ (r .next ≡ nextIn targets b next (now (p .entry))) × (r .missed ≤ 1) ⌝ }
     ensures { λ r. ⌜ ((s : Scales) → Taking (effectBy s seconds) targets b next (now (p .entry)) (now (sums .entry)) (now (margins .entry)) (now (facts .entry)) (r .missed) (now (sums .exit)) (now (margins .exit)) (now (facts .exit))) ⌝ }
 {
@@ -280,7 +290,7 @@ fn blast(
     margins: &mut [u32; 256],
     facts: &mut [u64; 256],
 ) -> Step
-    requires { ⌜ (limit ≡ min targets 256) × (getD (now p) 0 0 ≡ 6) × (flashFire < b .kind) ⌝ }
+    requires { ⌜ (limit ≡ min targets mostTargets) × (getD (now p) 0 0 ≡ effectKind) × (flashFire < b .kind) ⌝ }
     ensures { λ r. ⌜ (r .next ≡ nextIn targets b next (now (p .entry))) × (r .missed ≤ 1) ⌝ }
     ensures { λ r. ⌜ Taking (byTables (now (table .entry)) (now (near .entry)) (now (rows .entry))) targets b next (now (p .entry)) (now (sums .entry)) (now (margins .entry)) (now (facts .entry)) (r .missed) (now (sums .exit)) (now (margins .exit)) (now (facts .exit)) ⌝ }
 {
@@ -311,12 +321,12 @@ fn take_one(
     margins: &mut [u32; 256],
     facts: &mut [u64; 256],
 ) -> Step
-    requires { ⌜ (limit ≡ min targets 256) ⌝ }
+    requires { ⌜ (limit ≡ min targets mostTargets) ⌝ }
     ensures { λ r. ⌜ (r .next ≡ nextIn targets b next (now (p .entry))) × (r .missed ≤ 1) ⌝ }
     ensures { λ r. ⌜ Taking (byTables (now (table .entry)) (now (near .entry)) (now (rows .entry))) targets b next (now (p .entry)) (now (sums .entry)) (now (margins .entry)) (now (facts .entry)) (r .missed) (now (sums .exit)) (now (margins .exit)) (now (facts .exit)) ⌝ }
 {
-    if decoding::kind(p) == 6 {
-        if b.kind <= 3 {
+    if decoding::kind(p) == record::EFFECT {
+        if b.kind <= outcome::FIREBALL {
             return fire(
                 table,
                 near,
@@ -331,7 +341,7 @@ fn take_one(
                 facts,
             );
         }
-        if b.kind == 4 {
+        if b.kind == outcome::FLASH_FIRE {
             return flash(b, targets, limit, next, p, sums, margins, facts);
         }
         return blast(

@@ -5,6 +5,7 @@ ghost use Rattle.log2.specs.Logarithm.{logBy};
 ghost use Rattle.probit.specs.Chance.{chanceBy};
 ghost use Rattle.terms.specs.Scales.{lent};
 ghost use Rattle.equipment.specs.Damage.{blastRowOf, blastProbitBy, blastDamageBy, heatProbitBy, heatDamageBy};
+use terms::class;
 
 // A row of table D.2 for explosions: what the probit takes off, its factor in hundredths, and the threshold in Pa.
 pub struct BlastRow {
@@ -13,25 +14,25 @@ pub struct BlastRow {
     pub threshold: u32,
 }
 
-// The row of a class in table D.2; classes 2 and 5 share one.
+// The row of a class in table D.2; pressurised vessels and pipes share one.
 fn blast_row(class: u8) -> BlastRow
     ensures { λ r. ⌜ r ≡ blastRowOf class ⌝ }
 {
-    if class == 1 {
+    if class == class::ATMOSPHERIC {
         return BlastRow {
             constant: 9_360_000,
             factor: 134,
             threshold: 5_170,
         };
     }
-    if class == 3 {
+    if class == class::TOWER {
         return BlastRow {
             constant: 12_220_000,
             factor: 165,
             threshold: 17_000,
         };
     }
-    if class == 4 {
+    if class == class::MACHINE {
         return BlastRow {
             constant: 12_420_000,
             factor: 164,

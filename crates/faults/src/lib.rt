@@ -4,6 +4,8 @@ ghost use Rattle.numeric.specs.Choice.{ifEq};
 ghost use Rattle.model.specs.Faults.{orderFault, namingFault, effectFault, closingFault};
 ghost use Rattle.model.specs.Verdict.{field};
 use state::Core;
+use state::record;
+use terms::outcome;
 
 fn only(k: u8, allowed: u8) -> u8
     ensures { λ r. ⌜ r ≡ ifEq k allowed 0 2 ⌝ }
@@ -28,24 +30,24 @@ pub fn order_fault(records: u32, left: u16, trees: u8, scenarios: u32, k: u8) ->
     ensures { λ r. ⌜ r ≡ orderFault records left trees scenarios k ⌝ }
 {
     if records == 0 {
-        return only(k, 1);
+        return only(k, record::OPENING);
     }
     if 0 < left {
-        return only(k, 6);
+        return only(k, record::EFFECT);
     }
     if 0 < trees {
-        if k == 4 {
+        if k == record::BRANCHING {
             return 0;
         }
-        return only(k, 5);
+        return only(k, record::OUTCOME);
     }
-    if k == 2 {
+    if k == record::TARGET {
         return only_first(scenarios);
     }
-    if k == 3 {
+    if k == record::LEAK {
         return 0;
     }
-    only(k, 7)
+    only(k, record::CLOSING)
 }
 
 // 4: a target whose number isn't the next.
@@ -74,14 +76,14 @@ fn naming_fault(targets: u16, next: u32, t: u16) -> u8
 pub fn effect_fault(targets: u16, kind: u8, next: u32, t: u16, intensity: u32, duration: u16) -> u8
     ensures { λ r. ⌜ r ≡ effectFault targets kind next t intensity duration ⌝ }
 {
-    if kind <= 3 {
+    if kind <= outcome::FIREBALL {
         if duration == 0 {
             return 3;
         }
         return naming_fault(targets, next, t);
     }
     if duration == 0 {
-        if kind == 4 {
+        if kind == outcome::FLASH_FIRE {
             if intensity <= 1 {
                 return naming_fault(targets, next, t);
             }

@@ -2,6 +2,9 @@
 use libc::STDOUT_FILENO;
 use numeric;
 use terms::Target;
+use terms::class;
+use terms::outcome;
+use terms::setting;
 
 fn word(text: &[u8]) {
     io::write_all(STDOUT_FILENO, text);
@@ -50,11 +53,11 @@ fn fires(
     duration: u16,
 ) {
     let target = Target {
-        class: 0,
+        class: class::PEOPLE,
         setting: setting,
         volume: 0,
     };
-    people(1, setting, q, duration);
+    people(outcome::POOL_FIRE, setting, q, duration);
     number(vulnerability::fire(table, near, rows, target, q, duration) as u64);
     word(b"\n");
 }
@@ -62,11 +65,11 @@ fn fires(
 // Setting and overpressure in an explosion; chance of death.
 fn deaths(table: &[u32; 256], near: &[u8; 512], rows: &[u32; 544], setting: u8, pa: u32) {
     let target = Target {
-        class: 0,
+        class: class::PEOPLE,
         setting: setting,
         volume: 0,
     };
-    people(5, setting, pa, 0);
+    people(outcome::EXPLOSION, setting, pa, 0);
     number(vulnerability::blast(table, near, rows, target, pa) as u64);
     word(b"\n");
 }
@@ -75,7 +78,7 @@ fn deaths(table: &[u32; 256], near: &[u8; 512], rows: &[u32; 544], setting: u8, 
 fn blasts(table: &[u32; 256], near: &[u8; 512], rows: &[u32; 544], class: u8, pa: u32) {
     let target = Target {
         class: class,
-        setting: 0,
+        setting: setting::INDIVIDUAL,
         volume: 0,
     };
     let chance = vulnerability::blast(table, near, rows, target, pa);
@@ -98,16 +101,16 @@ fn main() {
     logarithm(&table, &near, 1);
     logarithm(&table, &near, 2);
     logarithm(&table, &near, 3);
-    fires(&table, &near, &rows, 0, 12_500, 20);
-    fires(&table, &near, &rows, 1, 12_500, 20);
-    fires(&table, &near, &rows, 2, 12_500, 20);
-    fires(&table, &near, &rows, 0, 34_999, 20);
-    fires(&table, &near, &rows, 0, 35_000, 20);
-    deaths(&table, &near, &rows, 2, 9_999);
-    deaths(&table, &near, &rows, 2, 10_000);
-    deaths(&table, &near, &rows, 2, 30_000);
-    blasts(&table, &near, &rows, 1, 67_000);
-    blasts(&table, &near, &rows, 1, 70_000);
-    blasts(&table, &near, &rows, 2, 29_999);
-    blasts(&table, &near, &rows, 2, 30_000);
+    fires(&table, &near, &rows, setting::INDIVIDUAL, 12_500, 20);
+    fires(&table, &near, &rows, setting::OUTDOORS, 12_500, 20);
+    fires(&table, &near, &rows, setting::INDOORS, 12_500, 20);
+    fires(&table, &near, &rows, setting::INDIVIDUAL, 34_999, 20);
+    fires(&table, &near, &rows, setting::INDIVIDUAL, 35_000, 20);
+    deaths(&table, &near, &rows, setting::INDOORS, 9_999);
+    deaths(&table, &near, &rows, setting::INDOORS, 10_000);
+    deaths(&table, &near, &rows, setting::INDOORS, 30_000);
+    blasts(&table, &near, &rows, class::ATMOSPHERIC, 67_000);
+    blasts(&table, &near, &rows, class::ATMOSPHERIC, 70_000);
+    blasts(&table, &near, &rows, class::PRESSURISED, 29_999);
+    blasts(&table, &near, &rows, class::PRESSURISED, 30_000);
 }

@@ -3,6 +3,7 @@ use mathlib.Core.List.{List, [], _∷_, _++_}
 use Prim.Native.Nat.{ℕ, zero, suc, _+_, _/_, _%_}
 use lib.ListN.{length, take}
 use Rattle.numeric.specs.Choice.{pick, ifEq, ifLe, ifLt}
+use Rattle.terms.specs.Terms.{people}
 use Rattle.state.specs.declared.Totals.{Totals}
 use Rattle.state.specs.declared.TargetReport.{TargetReport}
 use Rattle.lines.specs.declared.Line.{Line}
@@ -88,7 +89,7 @@ kindLine k v = kindWord ++ decimal k ++ spaceWord ++ decimal v ++ endWord
 
 -- after the margin: " grade G" of a place of people, " domino" of equipment on the domino list, nothing of other equipment
 unfoldable pub judgedWords : TargetReport → List ℕ
-judgedWords r = ifEq (r .class) 0 (gradeWord ++ decimal (r .grade)) (pick (r .listed) dominoWord [])
+judgedWords r = ifEq (r .class) people (gradeWord ++ decimal (r .grade)) (pick (r .listed) dominoWord [])
 
 -- "target T sum S margin M" and those words
 unfoldable pub targetLine : ℕ → TargetReport → List ℕ

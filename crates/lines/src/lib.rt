@@ -6,9 +6,11 @@ ghost use lib.ListN.{length, drop};
 ghost use lib.Seq.{paste};
 ghost use Rattle.io.specs.Counts.{Counts};
 ghost use Rattle.numeric.specs.Choice.{pick, ifEq, ifLe};
+ghost use Rattle.terms.specs.Terms.{people};
 ghost use Rattle.lines.specs.Text.{textOf, appended, decimal, gradeWord, dominoWord, studyLine, kindLine, targetLine, unjudgedLine, refusedLine};
 use state::TargetReport;
 use state::Totals;
+use terms::class;
 
 // A line of text: the first len bytes of the array.
 pub struct Line {
@@ -108,9 +110,9 @@ impl Line {
 
     // What stands after a target's margin.
     fn judged(self, r: TargetReport) -> Line
-        ensures { λ l. ⌜ textOf l ≡ ifEq (r .class) 0 (appended (appended (textOf self) gradeWord) (decimal (r .grade))) (pick (r .listed) (appended (textOf self) dominoWord) (textOf self)) ⌝ }
+        ensures { λ l. ⌜ textOf l ≡ ifEq (r .class) people (appended (appended (textOf self) gradeWord) (decimal (r .grade))) (pick (r .listed) (appended (textOf self) dominoWord) (textOf self)) ⌝ }
     {
-        if r.class == 0 {
+        if r.class == class::PEOPLE {
             return self.figure(b" grade ", r.grade as u64);
         }
         if r.listed {

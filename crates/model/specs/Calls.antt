@@ -4,7 +4,7 @@ use mathlib.Core.List.{List, [], _∷_, _++_}
 use Prim.Native.Nat.{ℕ, _<_}
 use lib.ListN.{length, drop}
 use Rattle.numeric.specs.Choice.{ifEq, ifLe, ifLt}
-use Rattle.terms.specs.Terms.{people}
+use Rattle.terms.specs.Terms.{noEffect, poolFire, jetFire, fireball, flashFire, explosion, people}
 use Rattle.state.specs.declared.Totals.{Totals}
 use Rattle.state.specs.declared.TargetReport.{TargetReport}
 use Rattle.state.specs.declared.DominoReport.{DominoReport}
@@ -47,7 +47,7 @@ totalsOf p c =
       study = c .number;
       records = countOf c;
       leaks = leaksOf c;
-      kinds = kindTotal c 0 ∷ kindTotal c 1 ∷ kindTotal c 2 ∷ kindTotal c 3 ∷ kindTotal c 4 ∷ kindTotal c 5 ∷ [];
+      kinds = kindTotal c noEffect ∷ kindTotal c poolFire ∷ kindTotal c jetFire ∷ kindTotal c fireball ∷ kindTotal c flashFire ∷ kindTotal c explosion ∷ [];
       unjudged = unjudgedOf c;
       targets = length (c .targets);
     }

@@ -4,31 +4,31 @@ use Prim.Native.Nat.{ℕ, suc, _+_, _-_}
 use lib.ListN.{length, getD, drop}
 use Rattle.numeric.specs.Choice.{ifEq, ifLe, ifLt}
 use Rattle.numeric.specs.Share.{certain}
-use Rattle.terms.specs.Terms.{noEffect, fireball, flashFire, people}
+use Rattle.terms.specs.Terms.{noEffect, fireball, flashFire, people, individual}
 use Rattle.terms.specs.declared.Target.{Target as Facts}
 use Rattle.state.specs.declared.Counts.{Counts}
 use Rattle.model.specs.Bounds.{mostTargets, mostScenarios, mostRecords, mostAbove, mostVolume, leastFrequency, mostFrequency, mostEffects, mostKind, mostClass, mostSetting}
 use Rattle.model.specs.Content.{Branching, chance, Target, facts, Effect, targetOf, intensity, duration}
-use Rattle.model.specs.Format.{Record, openingRec, targetRec, leakRec, branchingRec, outcomeRec, effectRec, closingRec}
+use Rattle.model.specs.Format.{openingKind, targetKind, leakKind, branchingKind, outcomeKind, effectKind, closingKind, Record, openingRec, targetRec, leakRec, branchingRec, outcomeRec, effectRec, closingRec}
 
 -- the place of a record in 01's order, by the number of its kind in 01's table
 abbrev pub role : Record → ℕ
-role (openingRec n) = 1
-role (targetRec n t) = 2
-role (leakRec n f) = 3
-role (branchingRec b) = 4
-role (outcomeRec k n) = 5
-role (effectRec e) = 6
-role (closingRec n s) = 7
+role (openingRec n) = openingKind
+role (targetRec n t) = targetKind
+role (leakRec n f) = leakKind
+role (branchingRec b) = branchingKind
+role (outcomeRec k n) = outcomeKind
+role (effectRec e) = effectKind
+role (closingRec n s) = closingKind
 
 -- 2, a record the order doesn't allow here: opening first; effects as many as announced; a tree to its end; targets before all scenarios
 unfoldable pub orderFault : ℕ → ℕ → ℕ → ℕ → ℕ → ℕ
 orderFault records left trees scenarios k =
-    ifEq records 0 (ifEq k 1 0 2)
-    (ifLt 0 left (ifEq k 6 0 2)
-    (ifLt 0 trees (ifEq k 4 0 (ifEq k 5 0 2))
-    (ifEq k 2 (ifEq scenarios 0 0 2)
-    (ifEq k 3 0 (ifEq k 7 0 2)))))
+    ifEq records 0 (ifEq k openingKind 0 2)
+    (ifLt 0 left (ifEq k effectKind 0 2)
+    (ifLt 0 trees (ifEq k branchingKind 0 (ifEq k outcomeKind 0 2))
+    (ifEq k targetKind (ifEq scenarios 0 0 2)
+    (ifEq k leakKind 0 (ifEq k closingKind 0 2)))))
 
 -- 5, one too many; 3, a field outside its bounds; 4, a number that breaks its rule; in this order, kind by kind
 unfoldable pub targetFault : ℕ → ℕ → Facts → ℕ
@@ -38,7 +38,7 @@ targetFault targets n f =
     (ifLt mostSetting (f .setting) 3
     (ifLt mostVolume (f .volume) 3
     (ifEq (f .class) people (ifEq n targets 0 4)
-    (ifEq (f .setting) 0 (ifEq n targets 0 4) 3)))))
+    (ifEq (f .setting) individual (ifEq n targets 0 4) 3)))))
 
 unfoldable pub leakFault : ℕ → ℕ → ℕ → ℕ → ℕ
 leakFault scenarios last n f =

@@ -5,6 +5,28 @@ use lib.ListN.{length}
 use Rattle.model.specs.Sums.{sumOver, joinOver}
 use Rattle.model.specs.Content.{Branching, given, Target, described, Effect, inSeconds, Tree, outcome, branching, Scenario, Content}
 
+-- the first byte of a record says its kind
+abbrev pub openingKind : ℕ
+openingKind = 1
+
+abbrev pub targetKind : ℕ
+targetKind = 2
+
+abbrev pub leakKind : ℕ
+leakKind = 3
+
+abbrev pub branchingKind : ℕ
+branchingKind = 4
+
+abbrev pub outcomeKind : ℕ
+outcomeKind = 5
+
+abbrev pub effectKind : ℕ
+effectKind = 6
+
+abbrev pub closingKind : ℕ
+closingKind = 7
+
 -- the record kinds of 01's table
 pub data Record : Type 0 where
   -- study number
@@ -27,13 +49,13 @@ bytes (suc n) x = x / 256 ^ n % 256 ∷ bytes n x
 
 -- a record's bytes: one byte of kind, then the body
 unfoldable pub encode : Record → List ℕ
-encode (openingRec n) = 1 ∷ bytes 4 n
-encode (targetRec n (described f)) = 2 ∷ bytes 2 n ++ bytes 1 (f .class) ++ bytes 1 (f .setting) ++ bytes 4 (f .volume)
-encode (leakRec n f) = 3 ∷ bytes 4 n ++ bytes 8 f
-encode (branchingRec (given p)) = 4 ∷ bytes 4 p
-encode (outcomeRec k n) = 5 ∷ bytes 1 k ++ bytes 2 n
-encode (effectRec (inSeconds t i d)) = 6 ∷ bytes 2 t ++ bytes 4 i ++ bytes 2 d
-encode (closingRec n s) = 7 ∷ bytes 4 n ++ bytes 8 s
+encode (openingRec n) = openingKind ∷ bytes 4 n
+encode (targetRec n (described f)) = targetKind ∷ bytes 2 n ++ bytes 1 (f .class) ++ bytes 1 (f .setting) ++ bytes 4 (f .volume)
+encode (leakRec n f) = leakKind ∷ bytes 4 n ++ bytes 8 f
+encode (branchingRec (given p)) = branchingKind ∷ bytes 4 p
+encode (outcomeRec k n) = outcomeKind ∷ bytes 1 k ++ bytes 2 n
+encode (effectRec (inSeconds t i d)) = effectKind ∷ bytes 2 t ++ bytes 4 i ++ bytes 2 d
+encode (closingRec n s) = closingKind ∷ bytes 4 n ++ bytes 8 s
 
 -- 01, "Order": opening; targets; scenarios; closing
 unfoldable pub targetRecords : ℕ → List Target → List Record

@@ -20,6 +20,7 @@ use Rattle.state.specs.declared.Row.{Row}
 use Rattle.state.specs.declared.Totals.{Totals}
 use Rattle.state.specs.declared.TargetReport.{TargetReport}
 use Rattle.state.specs.declared.DominoReport.{DominoReport}
+use Rattle.model.specs.Bounds.{mostTargets}
 use Rattle.model.specs.Sums.{numbersBelow}
 use Rattle.model.specs.Content.{Branching, chance, Target, facts as factsOf, Effect, targetOf, intensity, duration, clock}
 use Rattle.model.specs.Format.{Record, openingRec, targetRec, leakRec, branchingRec, outcomeRec, effectRec, closingRec}
@@ -28,7 +29,7 @@ use Rattle.model.specs.Verdict.{bodyLength, decode}
 use Rattle.model.specs.Report.{gradeOf}
 use Rattle.model.specs.Calls.{Call, piece, totals, target, domino, Answer, tookPiece, gaveTotals, gaveTarget, gaveDomino, noTotals, noTarget, noDomino, front}
 
--- the parts that go by value, 16 pending bytes, nine pending trees, and three figures for each of 256 targets
+-- the parts that go by value, 16 pending bytes, nine pending trees, and three figures for each of the most targets that a study has
 pub record State : Type 0 where
   pub core : Core
   pub pending : List ℕ
@@ -63,6 +64,16 @@ fetch n l i = ifLt i n (getD l i 0) 0
 
 -- ---- the reading
 
+-- its phases: records are still read; the study is closed; a refusal is kept
+abbrev pub openPhase : ℕ
+openPhase = 0
+
+abbrev pub closedPhase : ℕ
+closedPhase = 1
+
+abbrev pub refusedPhase : ℕ
+refusedPhase = 2
+
 abbrev pub reading : ℕ → ℕ → ℕ → ℕ → ℕ → ℕ → Reading
 reading phase have place start number at = record { phase = phase; have = have; place = place; start = start; number = number; at = at }
 
@@ -70,12 +81,12 @@ reading phase have place start number at = record { phase = phase; have = have; 
 unfoldable pub begun : Reading → ℕ → Reading
 begun h k =
     ifEq (bodyLength k) 0
-    (reading 2 0 (h .place) (h .start) 1 (h .place))
-    (reading 0 1 (upTo most64 (h .place) 1) (h .place) 0 0)
+    (reading refusedPhase 0 (h .place) (h .start) 1 (h .place))
+    (reading openPhase 1 (upTo most64 (h .place) 1) (h .place) 0 0)
 
 -- one byte more of the body
 unfoldable pub grown : Reading → Reading
-grown h = reading 0 (upTo 15 (h .have) 1) (upTo most64 (h .place) 1) (h .start) 0 0
+grown h = reading openPhase (upTo 15 (h .have) 1) (upTo most64 (h .place) 1) (h .start) 0 0
 
 -- a record is taken; the study goes on in a phase
 unfoldable pub taken : Reading → ℕ → Reading
@@ -83,7 +94,7 @@ taken h phase = reading phase 0 (h .place) (h .start) 0 0
 
 -- a record is refused at its first byte
 unfoldable pub refusedWith : Reading → ℕ → Reading
-refusedWith h n = reading 2 0 (h .place) (h .start) n (h .start)
+refusedWith h n = reading refusedPhase 0 (h .place) (h .start) n (h .start)
 
 -- ---- the counts
 
@@ -211,36 +222,36 @@ rowAt s t = rowOf (s .sums) (s .margins) (s .facts) t
 unfoldable pub effectState : State → ℕ → Judged → State
 effectState s t j =
     state
-    (core (taken (s .core .reading) 0) (oneRecord (s .core .counts)) (effectBranch (s .core .branch) t) (effectTally (s .core .tally) (j .judged)))
+    (core (taken (s .core .reading) openPhase) (oneRecord (s .core .counts)) (effectBranch (s .core .branch) t) (effectTally (s .core .tally) (j .judged)))
     (s .pending) (s .stack)
-    (store 256 (s .sums) t (rowAfter (rowAt s t) (s .core .branch) (j .chance) .sum))
-    (store 256 (s .margins) t (rowAfter (rowAt s t) (s .core .branch) (j .chance) .margin))
-    (store 256 (s .facts) t (rowAfter (rowAt s t) (s .core .branch) (j .chance) .facts))
+    (store mostTargets (s .sums) t (rowAfter (rowAt s t) (s .core .branch) (j .chance) .sum))
+    (store mostTargets (s .margins) t (rowAfter (rowAt s t) (s .core .branch) (j .chance) .margin))
+    (store mostTargets (s .facts) t (rowAfter (rowAt s t) (s .core .branch) (j .chance) .facts))
 
 -- a record without fault is taken
 unfoldable pub accepted : State → Record → State
 accepted s (openingRec n) =
-    state (core (taken (s .core .reading) 0) (oneRecord (s .core .counts)) (s .core .branch) (studyTally (s .core .tally) n))
+    state (core (taken (s .core .reading) openPhase) (oneRecord (s .core .counts)) (s .core .branch) (studyTally (s .core .tally) n))
     (s .pending) (s .stack) (s .sums) (s .margins) (s .facts)
 accepted s (targetRec n t) =
-    state (core (taken (s .core .reading) 0) (oneTarget (s .core .counts)) (s .core .branch) (s .core .tally))
-    (s .pending) (s .stack) (s .sums) (s .margins) (store 256 (s .facts) (s .core .counts .targets) (packedFacts (factsOf t)))
+    state (core (taken (s .core .reading) openPhase) (oneTarget (s .core .counts)) (s .core .branch) (s .core .tally))
+    (s .pending) (s .stack) (s .sums) (s .margins) (store mostTargets (s .facts) (s .core .counts .targets) (packedFacts (factsOf t)))
 accepted s (leakRec n f) =
-    state (core (taken (s .core .reading) 0) (oneLeak (s .core .counts) n f) (leakBranch (s .core .branch) f) (s .core .tally))
+    state (core (taken (s .core .reading) openPhase) (oneLeak (s .core .counts) n f) (leakBranch (s .core .branch) f) (s .core .tally))
     (s .pending) (leakStack (s .stack) f) (s .sums) (s .margins) (s .facts)
 accepted s (branchingRec b) =
-    state (core (taken (s .core .reading) 0) (oneRecord (s .core .counts)) (branchedBranch (s .core .branch)) (s .core .tally))
+    state (core (taken (s .core .reading) openPhase) (oneRecord (s .core .counts)) (branchedBranch (s .core .branch)) (s .core .tally))
     (s .pending) (branchStack (s .stack) (s .core .branch .height) (chance b)) (s .sums) (s .margins) (s .facts)
 accepted s (outcomeRec k n) =
     state
-    (core (taken (s .core .reading) 0) (oneRecord (s .core .counts))
+    (core (taken (s .core .reading) openPhase) (oneRecord (s .core .counts))
     (outcomeBranch (s .core .branch) (top (s .stack) (s .core .branch .height)) k n)
     (outcomeTally (s .core .tally) k (frequencyOf (top (s .stack) (s .core .branch .height)))))
     (s .pending) (s .stack) (s .sums) (s .margins) (s .facts)
 accepted s (effectRec e) =
-    effectState s (targetOf e) (effectOn (clock e) (unpackedFacts (fetch 256 (s .facts) (targetOf e))) (s .core .branch .kind) (intensity e) (duration e))
+    effectState s (targetOf e) (effectOn (clock e) (unpackedFacts (fetch mostTargets (s .facts) (targetOf e))) (s .core .branch .kind) (intensity e) (duration e))
 accepted s (closingRec n t) =
-    state (core (taken (s .core .reading) 1) (oneRecord (s .core .counts)) (s .core .branch) (s .core .tally))
+    state (core (taken (s .core .reading) closedPhase) (oneRecord (s .core .counts)) (s .core .branch) (s .core .tally))
     (s .pending) (s .stack) (s .sums) (s .margins) (s .facts)
 
 unfoldable pub withReading : State → Reading → State
@@ -271,7 +282,7 @@ body s b =
 
 unfoldable pub step : State → ℕ → State
 step s b =
-    ifEq (s .core .reading .phase) 0
+    ifEq (s .core .reading .phase) openPhase
     (ifEq (s .core .reading .have) 0
     (state (core (begun (s .core .reading) b) (s .core .counts) (s .core .branch) (s .core .tally))
     (store 16 (s .pending) 0 b) (s .stack) (s .sums) (s .margins) (s .facts))
@@ -287,25 +298,25 @@ readAll s (b ∷ bs) = readAll (step s b) bs
 -- 01: "A fresh study has all 256 sums at nought"
 abbrev pub freshCore : Core
 freshCore =
-    core (reading 0 0 0 0 0 0)
+    core (reading openPhase 0 0 0 0 0)
     (record { records = 0; targets = 0; scenarios = 0; last = 0; leaks = 0 })
     (record { height = 0; left = 0; next = 0; leak = 0; kind = 0; frequency = 0; above = 0 })
     (record { study = 0; kind0 = 0; kind1 = 0; kind2 = 0; kind3 = 0; kind4 = 0; kind5 = 0; unjudged = 0 })
 
 unfoldable pub fresh : State
-fresh = state freshCore (replicate 16 0) (replicate 9 0) (replicate 256 0) (replicate 256 0) (replicate 256 0)
+fresh = state freshCore (replicate 16 0) (replicate 9 0) (replicate mostTargets 0) (replicate mostTargets 0) (replicate mostTargets 0)
 
 -- number and place that a piece of n bytes answers with, from the place before it and the reading after it
 unfoldable pub numberAfter : ℕ → ℕ → Reading → ℕ
-numberAfter before n h = ifEq (h .phase) 2 (h .number) (ifEq (h .phase) 1 (ifLt (h .place - before) n 7 0) 0)
+numberAfter before n h = ifEq (h .phase) refusedPhase (h .number) (ifEq (h .phase) closedPhase (ifLt (h .place - before) n 7 0) 0)
 
 unfoldable pub placeAfter : Reading → ℕ
-placeAfter h = ifEq (h .phase) 2 (h .at) (h .place)
+placeAfter h = ifEq (h .phase) refusedPhase (h .at) (h .place)
 
 unfoldable pub totalsIn : Core → Totals
 totalsIn c =
-    ifEq (c .reading .phase) 2 (noTotals (c .reading .number) (c .reading .at))
-    (ifEq (c .reading .phase) 1
+    ifEq (c .reading .phase) refusedPhase (noTotals (c .reading .number) (c .reading .at))
+    (ifEq (c .reading .phase) closedPhase
     (record {
       number = 0;
       place = c .reading .place;
@@ -333,21 +344,21 @@ rowReport p w =
 
 unfoldable pub targetIn : State → ℕ → TargetReport
 targetIn s t =
-    ifEq (s .core .reading .phase) 2 (noTarget (s .core .reading .number) (s .core .reading .at))
-    (ifEq (s .core .reading .phase) 1
-    (ifLt t (min (s .core .counts .targets) 256)
+    ifEq (s .core .reading .phase) refusedPhase (noTarget (s .core .reading .number) (s .core .reading .at))
+    (ifEq (s .core .reading .phase) closedPhase
+    (ifLt t (min (s .core .counts .targets) mostTargets)
     (rowReport (s .core .reading .place) (rowAt s t))
     (noTarget 9 (s .core .reading .place)))
     (noTarget 8 (s .core .reading .place)))
 
 -- the marked targets
 unfoldable pub markedIn : State → List ℕ
-markedIn s = numbersBelow (λ t. markOf (getD (s .facts) t 0)) (min (s .core .counts .targets) 256)
+markedIn s = numbersBelow (λ t. markOf (getD (s .facts) t 0)) (min (s .core .counts .targets) mostTargets)
 
 unfoldable pub dominoIn : State → ℕ → DominoReport
 dominoIn s n =
-    ifEq (s .core .reading .phase) 2 (noDomino (s .core .reading .number) (s .core .reading .at))
-    (ifEq (s .core .reading .phase) 1
+    ifEq (s .core .reading .phase) refusedPhase (noDomino (s .core .reading .number) (s .core .reading .at))
+    (ifEq (s .core .reading .phase) closedPhase
     (ifLe (length (markedIn s)) n
     (record { number = 0; place = s .core .reading .place; count = length (markedIn s) })
     (noDomino 10 (s .core .reading .place)))
@@ -356,7 +367,7 @@ dominoIn s n =
 -- the lent list afterwards
 unfoldable pub listAfter : State → List ℕ → List ℕ
 listAfter s l =
-    ifEq (s .core .reading .phase) 1
+    ifEq (s .core .reading .phase) closedPhase
     (ifLe (length (markedIn s)) (length l) (front (markedIn s) l) l)
     l
 

@@ -11,7 +11,7 @@ use Rattle.state.specs.declared.TargetReport.{TargetReport}
 use Rattle.model.specs.Bounds.{mostTargets, mostScenarios, mostRecords, mostFrequency}
 use Rattle.model.specs.Content.{Target, Scenario, Content}
 use Rattle.model.specs.Sums.{sumOver, joinOver}
-use Rattle.model.specs.Format.{Record, openingRec, targetRec, closingRec, scenarioRecords, leaksOf, openRecords, recordsOf, encode, bytesOf}
+use Rattle.model.specs.Format.{outcomeKind, closingKind, Record, openingRec, targetRec, closingRec, scenarioRecords, leaksOf, openRecords, recordsOf, encode, bytesOf}
 use Rattle.model.specs.Valid.{Valid, Each}
 use Rattle.model.specs.Outcomes.{Outcome, above, outcomesOf}
 use Rattle.model.specs.Report.{marginAt}
@@ -19,7 +19,7 @@ use Rattle.model.specs.MeaningTheorems.{Near, BothZero}
 use Rattle.model.specs.Faults.{Context, start, role, orderFault, contextAfter, contextAfterAll}
 use Rattle.model.specs.Verdict.{closed, refused, verdict}
 use Rattle.model.specs.Calls.{Call, totals, target, gaveTotals, gaveTarget, answers, joined, Bytes, Callable}
-use Rattle.model.specs.Machine.{State, accepted, fresh, readAll, stateAfterAll, answerIn, answersIn}
+use Rattle.model.specs.Machine.{State, closedPhase, accepted, fresh, readAll, stateAfterAll, answerIn, answersIn}
 
 -- Answers: every call is answered as 01 says from the bytes joined before it and the call alone, wherever the bytes were cut (demands 1 and 2).
 abbrev pub Answers : Type 0
@@ -33,7 +33,7 @@ pub record ClosedFront (l : List ℕ) : Type 0 where
   pub same : l ≡ bytesOf content ++ tail
 
 abbrev pub ClosedExactlyThen : Type 0
-ClosedExactlyThen = (cs : List Call) → Each Callable cs → (stateAfterAll fresh cs .core .reading .phase ≡ 1) ↔ ClosedFront (joined [] cs)
+ClosedExactlyThen = (cs : List Call) → Each Callable cs → (stateAfterAll fresh cs .core .reading .phase ≡ closedPhase) ↔ ClosedFront (joined [] cs)
 
 -- and then the content is that part's, whatever follows it
 abbrev pub ClosedContent : Type 0
@@ -94,7 +94,7 @@ Allowed x r = orderFault (x .counts .records) (x .left) (length (x .trees)) (x .
 
 unfoldable pub AllAllowed : Context → List Record → Type 0
 AllAllowed x [] = Unit {0}
-AllAllowed x (r ∷ rs) = Allowed x r × (role r ≡ 7 → ⊥) × AllAllowed (contextAfter x r) rs
+AllAllowed x (r ∷ rs) = Allowed x r × (role r ≡ closingKind → ⊥) × AllAllowed (contextAfter x r) rs
 
 pub record Continued (rs : List Record) (k : ℕ) : Type 0 where
   pub next : Record
@@ -114,13 +114,13 @@ pub record Seen : Type 0 where
   pub frequency : ℕ
   pub above : ℕ
 
--- the records are taken one after the other, and after each outcome's record (role 5) the machine's figures of it are noted
+-- the records are taken one after the other, and after each outcome's record the machine's figures of it are noted
 abbrev pub seenAt : Branch → Seen
 seenAt b = record { kind = b .kind; leak = b .leak; frequency = b .frequency; above = b .above }
 
 unfoldable pub seenIn : State → List Record → List Seen
 seenIn s [] = []
-seenIn s (r ∷ rs) = ifEq (role r) 5 (seenAt (accepted s r .core .branch) ∷ []) [] ++ seenIn (accepted s r) rs
+seenIn s (r ∷ rs) = ifEq (role r) outcomeKind (seenAt (accepted s r .core .branch) ∷ []) [] ++ seenIn (accepted s r) rs
 
 -- the same four figures of an outcome of the meaning
 abbrev pub seenOf : Outcome → Seen
@@ -134,7 +134,7 @@ OutcomesAreTheMeanings = (c : Content) → Valid c → seenIn fresh (openRecords
 unfoldable pub seenInBytes : List ℕ → List Record → List Seen
 seenInBytes before [] = []
 seenInBytes before (r ∷ rs) =
-    ifEq (role r) 5 (seenAt (readAll fresh (before ++ encode r) .core .branch) ∷ []) [] ++ seenInBytes (before ++ encode r) rs
+    ifEq (role r) outcomeKind (seenAt (readAll fresh (before ++ encode r) .core .branch) ∷ []) [] ++ seenInBytes (before ++ encode r) rs
 
 -- so it holds each outcome of the meaning, in order, once the bytes so far have been read, wherever they were cut (CutsMakeNoDifference)
 abbrev pub OutcomesInBytes : Type 0

@@ -6,7 +6,7 @@ use Prim.Native.Nat.{ℕ, _+_, _*_, _^_}
 use lib.ListN.{length, getD}
 use Rattle.numeric.specs.Choice.{pick, ifEq, ifLe}
 use Rattle.numeric.specs.Share.{shareOf}
-use Rattle.terms.specs.Terms.{people}
+use Rattle.terms.specs.Terms.{people, individual}
 use Rattle.terms.specs.declared.Judged.{Judged}
 use Rattle.terms.specs.declared.Target.{Target as Facts}
 use Rattle.vulnerability.specs.Effect.{effectOn}
@@ -17,7 +17,7 @@ use Rattle.model.specs.Outcomes.{Outcome, above, outcomesOf}
 
 -- the target of a number; one that is not declared counts as a place of people
 abbrev pub targetAt : Content → ℕ → Target
-targetAt c t = getD (c .targets) t (described (record { class = 0; setting = 0; volume = 0 }))
+targetAt c t = getD (c .targets) t (described (record { class = people; setting = individual; volume = 0 }))
 
 -- the chance of death or damage of an effect in an outcome, and whether it is judged
 unfoldable pub judgement : Content → Outcome → Effect → Judged

@@ -4,7 +4,7 @@ use mathlib.Core.List.{List, [], _∷_}
 use Prim.Native.Nat.{ℕ, suc, _^_, _<_, _≤_}
 use lib.ListN.{length}
 use Rattle.numeric.specs.Share.{certain}
-use Rattle.terms.specs.Terms.{noEffect, fireball, flashFire, people}
+use Rattle.terms.specs.Terms.{noEffect, fireball, flashFire, people, individual}
 use Rattle.model.specs.Bounds.{mostTargets, mostScenarios, mostRecords, mostAbove, mostVolume, leastFrequency, mostFrequency, mostEffects, mostKind, mostClass, mostSetting}
 use Rattle.model.specs.Content.{Branching, chance, Target, facts, Effect, targetOf, intensity, duration, Tree, outcome, branching, Scenario, Content}
 use Rattle.model.specs.Format.{countOf}
@@ -23,7 +23,7 @@ RiseFrom f least (x ∷ xs) = (least ≤ f x) × RiseFrom f (suc (f x)) xs
 pub record ValidTarget (t : Target) : Type 0 where
   pub class : facts t .class ≤ mostClass
   pub setting : facts t .setting ≤ mostSetting
-  pub equipment : (facts t .class ≡ people → ⊥) → facts t .setting ≡ 0
+  pub equipment : (facts t .class ≡ people → ⊥) → facts t .setting ≡ individual
   pub volume : facts t .volume ≤ mostVolume
 
 abbrev pub ValidBranching : Branching → Type 0

@@ -6,19 +6,19 @@ use lib.ListN.{length, getD, take, drop}
 use Rattle.numeric.specs.Choice.{ifEq, ifLe}
 use Rattle.terms.specs.declared.Target.{Target as Facts}
 use Rattle.model.specs.Content.{Branching, given, Target, described, Effect, inSeconds, Tree, outcome, branching, Scenario, Content}
-use Rattle.model.specs.Format.{Record, openingRec, targetRec, leakRec, branchingRec, outcomeRec, effectRec, closingRec}
+use Rattle.model.specs.Format.{openingKind, targetKind, leakKind, branchingKind, outcomeKind, effectKind, closingKind, Record, openingRec, targetRec, leakRec, branchingRec, outcomeRec, effectRec, closingRec}
 use Rattle.model.specs.Faults.{Context, start, role, fault, contextAfter}
 
 -- 01, "Records": the length of a kind's body; 0 for an unknown kind
 unfoldable pub bodyLength : ℕ → ℕ
 bodyLength k =
-    ifEq k 1 4
-    (ifEq k 2 8
-    (ifEq k 3 12
-    (ifEq k 4 4
-    (ifEq k 5 3
-    (ifEq k 6 8
-    (ifEq k 7 12 0))))))
+    ifEq k openingKind 4
+    (ifEq k targetKind 8
+    (ifEq k leakKind 12
+    (ifEq k branchingKind 4
+    (ifEq k outcomeKind 3
+    (ifEq k effectKind 8
+    (ifEq k closingKind 12 0))))))
 
 -- the number in n bytes from a place on, the most significant first
 unfoldable pub field : List ℕ → ℕ → ℕ → ℕ
@@ -31,12 +31,12 @@ factsAt l = record { class = field l 3 1; setting = field l 4 1; volume = field 
 
 unfoldable pub decode : List ℕ → Record
 decode l =
-    ifEq (getD l 0 0) 1 (openingRec (field l 1 4))
-    (ifEq (getD l 0 0) 2 (targetRec (field l 1 2) (described (factsAt l)))
-    (ifEq (getD l 0 0) 3 (leakRec (field l 1 4) (field l 5 8))
-    (ifEq (getD l 0 0) 4 (branchingRec (given (field l 1 4)))
-    (ifEq (getD l 0 0) 5 (outcomeRec (field l 1 1) (field l 2 2))
-    (ifEq (getD l 0 0) 6 (effectRec (inSeconds (field l 1 2) (field l 3 4) (field l 7 2)))
+    ifEq (getD l 0 0) openingKind (openingRec (field l 1 4))
+    (ifEq (getD l 0 0) targetKind (targetRec (field l 1 2) (described (factsAt l)))
+    (ifEq (getD l 0 0) leakKind (leakRec (field l 1 4) (field l 5 8))
+    (ifEq (getD l 0 0) branchingKind (branchingRec (given (field l 1 4)))
+    (ifEq (getD l 0 0) outcomeKind (outcomeRec (field l 1 1) (field l 2 2))
+    (ifEq (getD l 0 0) effectKind (effectRec (inSeconds (field l 1 2) (field l 3 4) (field l 7 2)))
     (closingRec (field l 1 4) (field l 5 8)))))))
 
 -- bytes cut into whole records; what is left is empty, a record cut short, or starts with an unknown kind byte
@@ -111,7 +111,7 @@ unfoldable pub judge : Context → ℕ → List Record → List (List ℕ) → L
 judge x place taken [] left = judgeLeft place left
 judge x place taken (b ∷ bs) left =
     ifEq (fault x (decode b)) 0
-    (ifEq (role (decode b)) 7
+    (ifEq (role (decode b)) closingKind
     (closed (place + length b) (contentOf taken))
     (judge (contextAfter x (decode b)) (place + length b) (taken ++ (decode b ∷ [])) bs left))
     (refused (fault x (decode b)) place)

@@ -5,6 +5,7 @@ ghost use Rattle.log2.specs.Logarithm.{logBy};
 ghost use Rattle.probit.specs.Chance.{chanceBy};
 ghost use Rattle.terms.specs.Scales.{lent};
 ghost use Rattle.people.specs.Death.{fireProbitBy, settingShare, fireDeathBy, flashDeath, blastDeath};
+use terms::setting;
 
 // (4 L(Q) + 3 L(t)) × 693,147 / 300, rounded down.
 fn dose(table: &[u32; 256], near: &[u8; 512], q: u32, t: u32) -> u64
@@ -19,7 +20,7 @@ fn dose(table: &[u32; 256], near: &[u8; 512], q: u32, t: u32) -> u64
 fn in_setting(setting: u8, chance: u32) -> u32
     ensures { λ r. ⌜ r ≡ settingShare setting chance ⌝ }
 {
-    if setting == 1 {
+    if setting == setting::OUTDOORS {
         return ((chance as u64) * 14 / 100) as u32;
     }
     chance
@@ -61,7 +62,7 @@ pub fn fire(
     if 35_000 <= q {
         return 1_000_000;
     }
-    if setting == 2 {
+    if setting == setting::INDOORS {
         return 0;
     }
     if q == 0 {
@@ -86,7 +87,7 @@ pub fn blast(setting: u8, pa: u32) -> u32
     if 30_000 <= pa {
         return 1_000_000;
     }
-    if setting == 2 {
+    if setting == setting::INDOORS {
         if 10_000 <= pa {
             return 25_000;
         }

@@ -8,16 +8,16 @@ use Rattle.numeric.specs.Choice.{pick, ifEq, ifLe}
 use Rattle.state.specs.declared.Core.{Core}
 use Rattle.state.specs.declared.Reading.{Reading}
 use Rattle.model.specs.Verdict.{bodyLength, decode}
-use Rattle.model.specs.Machine.{State, core, state, store, begun, grown, recordRead, cleared, step}
+use Rattle.model.specs.Machine.{State, core, state, store, openPhase, begun, grown, recordRead, cleared, step}
 use Rattle.reading.specs.declared.entering.Entered.{Entered}
 
 -- the reading after the byte
 unfoldable pub readingWith : Reading → ℕ → Reading
-readingWith h b = ifEq (h .phase) 0 (ifEq (h .have) 0 (begun h b) (grown h)) h
+readingWith h b = ifEq (h .phase) openPhase (ifEq (h .have) 0 (begun h b) (grown h)) h
 
 -- the pending bytes after it
 unfoldable pub pendingWith : Reading → List ℕ → ℕ → List ℕ
-pendingWith h p b = ifEq (h .phase) 0 (store 16 p (h .have) b) p
+pendingWith h p b = ifEq (h .phase) openPhase (store 16 p (h .have) b) p
 
 -- whether the last byte of a record's body is among them
 unfoldable pub wholeIn : Reading → List ℕ → Bool
@@ -25,7 +25,7 @@ wholeIn h p = ifLe (bodyLength (getD p 0 0)) (grown h .have - 1) true false
 
 -- whether the byte makes the record in them whole, so that it is still to be read
 unfoldable pub wholeWith : Reading → List ℕ → ℕ → Bool
-wholeWith h p b = ifEq (h .phase) 0 (ifEq (h .have) 0 false (wholeIn h (store 16 p (h .have) b))) false
+wholeWith h p b = ifEq (h .phase) openPhase (ifEq (h .have) 0 false (wholeIn h (store 16 p (h .have) b))) false
 
 -- the parts that go by value after it, and whether a record is still to be read
 abbrev pub enteredWith : Core → List ℕ → ℕ → Entered

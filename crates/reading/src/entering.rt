@@ -7,6 +7,7 @@ use crate::begin;
 use crate::core_reading;
 use crate::grow;
 use state::Core;
+use state::phase;
 
 fn one_less(x: u8) -> u8
     ensures { λ r. ⌜ r ≡ x - 1 ⌝ }
@@ -57,7 +58,7 @@ pub fn enter_byte(c: Core, b: u8, p: &mut [u8; 16]) -> Entered
     ensures { λ r. ⌜ now (p .exit) ≡ pendingWith (c .reading) (now (p .entry)) b ⌝ }
 {
     let h = c.reading;
-    if h.phase == 0 {
+    if h.phase == phase::OPEN {
         if h.have == 0 {
             put_pending(p, 0, b);
             let begun = core_reading(c, begin(h, b));

@@ -10,6 +10,7 @@ pub use entering::enter_byte;
 pub use moving::moved;
 use state::Core;
 use state::Reading;
+use state::phase;
 
 // The kind byte: a record begins, or refusal 1 at this byte. The length is that of the kind's body.
 pub fn begin(h: Reading, kind: u8) -> Reading
@@ -17,7 +18,7 @@ pub fn begin(h: Reading, kind: u8) -> Reading
 {
     if decoding::body_length(kind) == 0 {
         return Reading {
-            phase: 2,
+            phase: phase::REFUSED,
             have: 0,
             place: h.place,
             start: h.start,
@@ -26,7 +27,7 @@ pub fn begin(h: Reading, kind: u8) -> Reading
         };
     }
     Reading {
-        phase: 0,
+        phase: phase::OPEN,
         have: 1,
         place: numeric::add64(h.place, 1),
         start: h.place,
@@ -46,7 +47,7 @@ pub fn grow(h: Reading) -> Reading
     ensures { λ r. ⌜ r ≡ grown h ⌝ }
 {
     Reading {
-        phase: 0,
+        phase: phase::OPEN,
         have: one_more(h.have),
         place: numeric::add64(h.place, 1),
         start: h.start,
@@ -60,7 +61,7 @@ pub fn refuse(h: Reading, number: u8) -> Reading
     ensures { λ r. ⌜ r ≡ refusedWith h number ⌝ }
 {
     Reading {
-        phase: 2,
+        phase: phase::REFUSED,
         have: 0,
         place: h.place,
         start: h.start,
@@ -79,10 +80,10 @@ pub(crate) fn gap(x: u64, y: u64) -> u64
 pub fn piece_number(before: u64, n: u64, h: Reading) -> u8
     ensures { λ r. ⌜ r ≡ numberAfter before n h ⌝ }
 {
-    if h.phase == 2 {
+    if h.phase == phase::REFUSED {
         return h.number;
     }
-    if h.phase == 1 {
+    if h.phase == phase::CLOSED {
         if gap(h.place, before) < n {
             return 7;
         }
@@ -94,7 +95,7 @@ pub fn piece_number(before: u64, n: u64, h: Reading) -> u8
 pub fn piece_place(h: Reading) -> u64
     ensures { λ r. ⌜ r ≡ placeAfter h ⌝ }
 {
-    if h.phase == 2 {
+    if h.phase == phase::REFUSED {
         return h.at;
     }
     h.place

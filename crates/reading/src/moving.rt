@@ -3,6 +3,7 @@ ghost use mathlib.Core.Path.{_≡_};
 ghost use Rattle.reading.specs.Moving.{shifted, moved};
 use crate::gap;
 use state::Reading;
+use state::phase;
 
 // A place among the bytes, where the study stands.
 fn shifted(first: Reading, n: u64, x: u64) -> u64
@@ -20,7 +21,7 @@ pub fn moved(first: Reading, n: u64, h: Reading) -> Reading
 {
     let place = shifted(first, n, h.place);
     let start = shifted(first, n, h.start);
-    let at = if h.phase == 2 {
+    let at = if h.phase == phase::REFUSED {
         shifted(first, n, h.at)
     } else {
         0

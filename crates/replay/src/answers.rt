@@ -3,6 +3,7 @@ use crate::calls::MOST_NUMBERS;
 use crate::line;
 use state::Totals;
 use study::Study;
+use terms::class;
 
 // What each lent number holds before a call for the domino list.
 const BEFORE: u16 = 65_535;
@@ -51,7 +52,7 @@ pub(crate) fn totals(study: Study) {
 
 // The grade of a place of people, the mark of equipment on the domino list.
 fn judged(class: u8, grade: u8, listed: bool) {
-    if class == 0 {
+    if class == class::PEOPLE {
         line::named(b" grade", grade as u64);
         return;
     }

@@ -3,6 +3,7 @@ ghost use mathlib.Core.Path.{_≡_};
 ghost use mathlib.Core.List.{List};
 ghost use Prim.Native.Nat.{ℕ, _≤_};
 ghost use lib.ListN.{length, getD};
+ghost use Rattle.model.specs.Bounds.{mostTargets};
 ghost use Rattle.model.specs.Calls.{front, noDomino};
 ghost use Rattle.model.specs.Sums.{numbersBelow};
 ghost use Rattle.model.specs.Machine.{state, markOf, dominoIn, listAfter};
@@ -10,6 +11,8 @@ use crate::least;
 use crate::marked;
 use state::Core;
 use state::DominoReport;
+use state::MOST_TARGETS;
+use state::phase;
 
 fn refused_domino(number: u8, place: u64) -> DominoReport
     ensures { λ r. ⌜ r ≡ noDomino number place ⌝ }
@@ -23,7 +26,7 @@ fn refused_domino(number: u8, place: u64) -> DominoReport
 
 // How many of the first n targets are marked.
 fn count_marked(facts: &[u64; 256], n: u16) -> usize
-    requires { ⌜ n ≤ 256 ⌝ }
+    requires { ⌜ n ≤ mostTargets ⌝ }
     ensures { λ r. ⌜ r ≡ length (numbersBelow (λ t. markOf (getD (now (facts .entry)) t 0)) n) ⌝ }
 {
     let mut count: usize = 0;
@@ -39,7 +42,7 @@ fn count_marked(facts: &[u64; 256], n: u16) -> usize
 
 // Their numbers, at the front of the list.
 fn fill_marked(facts: &[u64; 256], n: u16, list: &mut [u16])
-    requires { ⌜ n ≤ 256 ⌝ }
+    requires { ⌜ n ≤ mostTargets ⌝ }
     requires { ⌜ length (numbersBelow (λ t. markOf (getD (now facts) t 0)) n) ≤ length (now list) ⌝ }
     ensures { λ _. ⌜ now (list .exit) ≡ front (numbersBelow (λ t. markOf (getD (now (facts .entry)) t 0)) n) (now (list .entry)) ⌝ }
 {
@@ -61,13 +64,13 @@ pub fn report_domino(c: Core, facts: &[u64; 256], list: &mut [u16]) -> DominoRep
 {
     let h = c.reading;
     let k = c.counts;
-    if h.phase == 2 {
+    if h.phase == phase::REFUSED {
         return refused_domino(h.number, h.at);
     }
-    if h.phase != 1 {
+    if h.phase != phase::CLOSED {
         return refused_domino(8, h.place);
     }
-    let n = least(k.targets, 256);
+    let n = least(k.targets, MOST_TARGETS);
     let count = count_marked(facts, n);
     if list.len() < count {
         return refused_domino(10, h.place);

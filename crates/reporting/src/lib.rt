@@ -4,6 +4,7 @@ mod domino;
 ghost use mathlib.Core.Path.{_≡_};
 ghost use Prim.Native.Nat.{min};
 ghost use Rattle.numeric.specs.Choice.{ifEq};
+ghost use Rattle.terms.specs.Terms.{people};
 ghost use Rattle.model.specs.Calls.{noTotals, noTarget};
 ghost use Rattle.model.specs.Report.{gradeOf};
 ghost use Rattle.model.specs.Machine.{totalsIn, rowReport, markOf};
@@ -12,6 +13,8 @@ use state::Core;
 use state::Row;
 use state::TargetReport;
 use state::Totals;
+use state::phase;
+use terms::class;
 
 pub fn least(x: u16, y: u16) -> u16
     ensures { λ r. ⌜ r ≡ min x y ⌝ }
@@ -40,10 +43,10 @@ pub fn report_totals(c: Core) -> Totals
     let h = c.reading;
     let k = c.counts;
     let y = c.tally;
-    if h.phase == 2 {
+    if h.phase == phase::REFUSED {
         return refused_totals(h.number, h.at);
     }
-    if h.phase == 1 {
+    if h.phase == phase::CLOSED {
         return Totals {
             number: 0,
             place: h.place,
@@ -108,9 +111,9 @@ pub fn marked(facts: u64) -> bool
 }
 
 fn grade_of_class(class: u8, sum: u64) -> u8
-    ensures { λ r. ⌜ r ≡ ifEq class 0 (gradeOf sum) 0 ⌝ }
+    ensures { λ r. ⌜ r ≡ ifEq class people (gradeOf sum) 0 ⌝ }
 {
-    if class == 0 {
+    if class == class::PEOPLE {
         return grade(sum);
     }
     0

@@ -4,6 +4,10 @@ ghost use Prim.Native.Nat.{_+_};
 ghost use Rattle.numeric.specs.Share.{shareOf};
 ghost use Rattle.model.specs.Machine.{upTo, most32, most64, packedFacts, unpackedFacts, markedFacts};
 use terms::Target;
+use terms::class;
+
+// The class of a place of people, as wide as a target's packed facts.
+const PEOPLE: u64 = class::PEOPLE as u64;
 
 // A target's facts in one number, the lowest bit its mark on the domino list.
 pub fn pack_facts(f: Target) -> u64
@@ -32,7 +36,7 @@ pub fn mark(x: u64, chance: u32, leak: u64) -> u64
     if x % 2 == 1 {
         return x;
     }
-    if x / 8 % 8 == 0 {
+    if x / 8 % 8 == PEOPLE {
         return x;
     }
     if vulnerability::listed(chance, leak) {

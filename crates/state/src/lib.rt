@@ -1,5 +1,11 @@
 // The parts of a study that go by value, and the answers of its calls. The rules stand in the crate model, the code in the crate study.
 
+pub mod phase;
+pub mod record;
+
+// The targets that a study has rows for.
+pub const MOST_TARGETS: u16 = 256;
+
 // The widest fields come first, and the others fill whole words but for one, two or four bytes: what is left over is then copied in one step.
 
 // Where the reading stands.
@@ -10,7 +16,7 @@ pub struct Reading {
     pub start: u64,
     // place of the kept refusal
     pub at: u64,
-    // 0 reading, 1 closed, 2 refused
+    // a number of the module phase
     pub phase: u32,
     // bytes of the record that has begun
     pub have: u8,

@@ -3,11 +3,11 @@ use Prim.Native.Nat.{ℕ, _+_, _-_, _*_}
 use Rattle.numeric.specs.Choice.{ifEq}
 use Rattle.state.specs.declared.Core.{Core}
 use Rattle.state.specs.declared.Reading.{Reading}
-use Rattle.model.specs.Machine.{upTo, most32, core, reading}
+use Rattle.model.specs.Machine.{upTo, most32, openPhase, core, reading}
 
 -- the reading after n effects of nine bytes, from the one with the first of them entered
 abbrev pub readingAfter : Reading → ℕ → Reading
-readingAfter h n = reading 0 0 (h .place + (n - 1) * 9) (ifEq n 1 (h .start) (h .place + (n - 2) * 9)) 0 0
+readingAfter h n = reading openPhase 0 (h .place + (n - 1) * 9) (ifEq n 1 (h .start) (h .place + (n - 2) * 9)) 0 0
 
 -- the parts that go by value after n effects, with the least target that the next one may name and the effects so far that no rule judged
 abbrev pub coreAfter : Core → ℕ → ℕ → ℕ → Core

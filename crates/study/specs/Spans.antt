@@ -6,11 +6,11 @@ use Prim.Native.Nat.{ℕ, _+_, _-_, _<_, _≤_}
 use lib.ListN.{length, getD, take, drop}
 use Rattle.state.specs.declared.Reading.{Reading}
 use Rattle.model.specs.Verdict.{bodyLength, decode}
-use Rattle.model.specs.Machine.{State, most64, recordRead, cleared, readAll}
+use Rattle.model.specs.Machine.{State, most64, openPhase, recordRead, cleared, readAll}
 
 -- the reading stands between two records, and a place past the next one is counted
 pub record Between (h : Reading) : Type 0 where
-  pub reads : h .phase ≡ 0
+  pub reads : h .phase ≡ openPhase
   pub none : h .have ≡ 0
   pub room : h .place + 13 ≤ most64
 

@@ -7,6 +7,9 @@ ghost use Rattle.study.specs.Placing.{placeFault};
 use crate::Study;
 use state::Core;
 use terms::Target;
+use terms::class;
+use terms::outcome;
+use terms::setting;
 
 // 5: one record too many, after 2.
 pub(crate) fn place_fault(c: Core, role: u8) -> u8
@@ -38,10 +41,10 @@ fn target_fault(targets: u16, number: u16, f: Target) -> u8
     if Study::MOST_VOLUME < f.volume {
         return 3;
     }
-    if f.class == 0 {
+    if f.class == class::PEOPLE {
         return faults::number_fault(number, targets);
     }
-    if f.setting == 0 {
+    if f.setting == setting::INDIVIDUAL {
         return faults::number_fault(number, targets);
     }
     3
@@ -77,7 +80,7 @@ pub(crate) fn outcome_fault(kind: u8, effects: u16) -> u8
     if Study::MOST_EFFECTS < effects {
         return 3;
     }
-    if kind == 0 {
+    if kind == outcome::NO_EFFECT {
         if effects == 0 {
             return 0;
         }

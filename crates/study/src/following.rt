@@ -4,6 +4,7 @@ ghost use mathlib.Core.List.{List};
 ghost use Prim.Native.Nat.{ℕ, _+_, _-_, _*_, _<_, _≤_};
 ghost use lib.ListN.{length, getD, replicate};
 ghost use Rattle.model.specs.Bounds.{mostRecords};
+ghost use Rattle.model.specs.Format.{effectKind};
 ghost use Rattle.model.specs.Machine.{most64, state};
 ghost use Rattle.counting.specs.Kinds.{withKinds};
 ghost use Rattle.effects.specs.Judging.{RightTables};
@@ -18,6 +19,8 @@ use state::Core;
 use state::Counts;
 use state::Reading;
 use state::Tally;
+use state::phase;
+use state::record;
 
 // How many effects the outcome and the number of records allow from an entered one on: all that are left, or that one alone.
 fn most_effects(c: Core) -> u32
@@ -57,7 +60,7 @@ fn reading_after(h: Reading, count: usize) -> Reading
         place: place,
         start: start,
         at: 0,
-        phase: 0,
+        phase: phase::OPEN,
         have: 0,
         number: 0,
     }
@@ -118,12 +121,12 @@ pub(crate) fn read_effects(
     margins: &mut [u32; 256],
     facts: &mut [u64; 256],
 ) -> Run
-    requires { ⌜ RightTables (now table) (now near) (now rows) × (16 ≤ length (now bytes)) × (getD (now bytes) 0 0 ≡ 6) ⌝ }
+    requires { ⌜ RightTables (now table) (now near) (now rows) × (16 ≤ length (now bytes)) × (getD (now bytes) 0 0 ≡ effectKind) ⌝ }
     requires { ⌜ c .reading .place + (length (now bytes) - 9) ≤ most64 ⌝ }
     ensures { λ r. ⌜ Records (now (bytes .entry)) (r .at) ⌝ }
     ensures { λ r. ⌜ ((l q k : List ℕ) → state (withKinds (r .core) l) (replicate 16 0) k (now (sums .exit)) (now (margins .exit)) (now (facts .exit)) ≡ afterFirst (state (withKinds c l) q k (now (sums .entry)) (now (margins .entry)) (now (facts .entry))) (now (bytes .entry)) (r .at)) ⌝ }
 {
-    let misplaced = place_fault(c, 6);
+    let misplaced = place_fault(c, record::EFFECT);
     if misplaced != 0 {
         return Run {
             core: refused(c, misplaced),

@@ -17,6 +17,10 @@ use state::Core;
 use state::Counts;
 use state::Reading;
 use state::Tally;
+use state::phase;
+use terms::class;
+use terms::outcome;
+use terms::setting;
 
 // A study being read, by value. No field is public: only a report shows a figure, and none before the end.
 pub struct Study {
@@ -33,7 +37,7 @@ pub struct Study {
 
 // The bounds of a study.
 impl Study {
-    pub const MOST_TARGETS: u16 = 256;
+    pub const MOST_TARGETS: u16 = state::MOST_TARGETS;
 
     pub const MOST_SCENARIOS: u32 = 65_536;
 
@@ -51,11 +55,11 @@ impl Study {
 
     pub const MOST_CHANCE: u32 = 1_000_000;
 
-    pub const MOST_KIND: u8 = 5;
+    pub const MOST_KIND: u8 = outcome::EXPLOSION;
 
-    pub const MOST_CLASS: u8 = 5;
+    pub const MOST_CLASS: u8 = class::PIPE;
 
-    pub const MOST_SETTING: u8 = 2;
+    pub const MOST_SETTING: u8 = setting::INDOORS;
 
     // A study of which nothing is read yet.
     pub fn fresh() -> Study
@@ -64,7 +68,7 @@ impl Study {
         Study {
             core: Core {
                 reading: Reading {
-                    phase: 0,
+                    phase: phase::OPEN,
                     have: 0,
                     place: 0,
                     start: 0,

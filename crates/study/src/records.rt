@@ -4,7 +4,7 @@ ghost use mathlib.Core.List.{List};
 ghost use Prim.Native.Nat.{ℕ, _+_, _<_, _≤_};
 ghost use lib.ListN.{getD};
 ghost use Rattle.model.specs.Content.{given, described};
-ghost use Rattle.model.specs.Format.{openingRec, targetRec, leakRec, branchingRec, outcomeRec, closingRec};
+ghost use Rattle.model.specs.Format.{leakKind, effectKind, openingRec, targetRec, leakRec, branchingRec, outcomeRec, closingRec};
 ghost use Rattle.model.specs.Verdict.{bodyLength, decode, field, factsAt};
 ghost use Rattle.model.specs.Machine.{state, core, refusedWith, recordRead};
 ghost use Rattle.counting.specs.Kinds.{withKinds};
@@ -16,6 +16,7 @@ use crate::bounds::own_target;
 use crate::bounds::place_fault;
 use faults::own_closing;
 use state::Core;
+use state::record;
 
 // The study after some bytes, and how many they were.
 pub(crate) struct Run {
@@ -34,7 +35,7 @@ fn read_opening(c: Core, p: &[u8]) -> Core
     requires { ⌜ decode (now p) ≡ openingRec (field (now p) 1 4) ⌝ }
     ensures { λ r. ⌜ ((q k s m f : List ℕ) → state r q k s m f ≡ recordRead (state c q k s m f) (decode (now (p .entry)))) ⌝ }
 {
-    let misplaced = place_fault(c, 1);
+    let misplaced = place_fault(c, record::OPENING);
     if misplaced != 0 {
         return refused(c, misplaced);
     }
@@ -45,7 +46,7 @@ fn read_target(c: Core, p: &[u8], facts: &mut [u64; 256]) -> Core
     requires { ⌜ decode (now p) ≡ targetRec (field (now p) 1 2) (described (factsAt (now p))) ⌝ }
     ensures { λ r. ⌜ ((q k s m : List ℕ) → state r q k s m (now (facts .exit)) ≡ recordRead (state c q k s m (now (facts .entry))) (decode (now (p .entry)))) ⌝ }
 {
-    let misplaced = place_fault(c, 2);
+    let misplaced = place_fault(c, record::TARGET);
     if misplaced != 0 {
         return refused(c, misplaced);
     }
@@ -60,7 +61,7 @@ pub(crate) fn read_leak(c: Core, p: &[u8], stack: &mut [u64; 9]) -> Core
     requires { ⌜ decode (now p) ≡ leakRec (field (now p) 1 4) (field (now p) 5 8) ⌝ }
     ensures { λ r. ⌜ ((q s m f : List ℕ) → state r q (now (stack .exit)) s m f ≡ recordRead (state c q (now (stack .entry)) s m f) (decode (now (p .entry)))) ⌝ }
 {
-    let misplaced = place_fault(c, 3);
+    let misplaced = place_fault(c, record::LEAK);
     if misplaced != 0 {
         return refused(c, misplaced);
     }
@@ -78,7 +79,7 @@ pub(crate) fn read_branching(c: Core, p: &[u8], stack: &mut [u64; 9]) -> Core
     requires { ⌜ decode (now p) ≡ branchingRec (given (field (now p) 1 4)) ⌝ }
     ensures { λ r. ⌜ ((q s m f : List ℕ) → state r q (now (stack .exit)) s m f ≡ recordRead (state c q (now (stack .entry)) s m f) (decode (now (p .entry)))) ⌝ }
 {
-    let misplaced = place_fault(c, 4);
+    let misplaced = place_fault(c, record::BRANCHING);
     if misplaced != 0 {
         return refused(c, misplaced);
     }
@@ -95,7 +96,7 @@ pub(crate) fn read_outcome(c: Core, p: &[u8], stack: &[u64; 9], kinds: &mut [u64
     requires { ⌜ decode (now p) ≡ outcomeRec (field (now p) 1 1) (field (now p) 2 2) ⌝ }
     ensures { λ r. ⌜ ((q s m f : List ℕ) → state (withKinds r (now (kinds .exit))) q (now (stack .entry)) s m f ≡ recordRead (state (withKinds c (now (kinds .entry))) q (now (stack .entry)) s m f) (decode (now (p .entry)))) ⌝ }
 {
-    let misplaced = place_fault(c, 5);
+    let misplaced = place_fault(c, record::OUTCOME);
     if misplaced != 0 {
         return refused(c, misplaced);
     }
@@ -112,7 +113,7 @@ fn read_closing(c: Core, p: &[u8]) -> Core
     requires { ⌜ decode (now p) ≡ closingRec (field (now p) 1 4) (field (now p) 5 8) ⌝ }
     ensures { λ r. ⌜ ((q k s m f : List ℕ) → state r q k s m f ≡ recordRead (state c q k s m f) (decode (now (p .entry)))) ⌝ }
 {
-    let misplaced = place_fault(c, 7);
+    let misplaced = place_fault(c, record::CLOSING);
     if misplaced != 0 {
         return refused(c, misplaced);
     }
@@ -133,16 +134,16 @@ fn ended(c: Core, kind: u8) -> Run
 
 // An opening, a target or a closing, and its length. The totals of the kinds stay, whatever they are.
 pub(crate) fn read_other(c: Core, p: &[u8], facts: &mut [u64; 256]) -> Run
-    requires { ⌜ (3 ≤ getD (now p) 0 0 → 6 < getD (now p) 0 0) ⌝ }
+    requires { ⌜ (leakKind ≤ getD (now p) 0 0 → effectKind < getD (now p) 0 0) ⌝ }
     ensures { λ r. ⌜ r .at ≡ lengthOf (now (p .entry)) ⌝ }
     ensures { λ r. ⌜ ((l q k s m : List ℕ) → state (withKinds (r .core) l) q k s m (now (facts .exit)) ≡ recordRead (state (withKinds c l) q k s m (now (facts .entry))) (decode (now (p .entry)))) ⌝ }
 {
     let kind = decoding::kind(p);
-    if kind == 2 {
+    if kind == record::TARGET {
         let after = read_target(c, p, facts);
         return ended(after, kind);
     }
-    if kind == 1 {
+    if kind == record::OPENING {
         let after = read_opening(c, p);
         return ended(after, kind);
     }

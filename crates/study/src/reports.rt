@@ -7,6 +7,7 @@ use state::DominoReport;
 use state::Row;
 use state::TargetReport;
 use state::Totals;
+use state::phase;
 
 impl Study {
     // The totals of the whole study.
@@ -24,11 +25,11 @@ impl Study {
         let core = self.core;
         let h = core.reading;
         let k = core.counts;
-        if h.phase == 2 {
+        if h.phase == phase::REFUSED {
             return reporting::refused_target(h.number, h.at);
         }
-        if h.phase == 1 {
-            if t < least(k.targets, 256) {
+        if h.phase == phase::CLOSED {
+            if t < least(k.targets, Self::MOST_TARGETS) {
                 let i = t as usize;
                 let row = Row {
                     sum: self.sums[i],

@@ -5,7 +5,8 @@ ghost use mathlib.Core.Bool.{true};
 ghost use mathlib.Core.List.{List};
 ghost use Prim.Native.Nat.{ℕ, _+_, _≤_};
 ghost use lib.ListN.{length, getD, replicate};
-ghost use Rattle.model.specs.Machine.{most64, core, reading, state};
+ghost use Rattle.model.specs.Format.{leakKind, effectKind};
+ghost use Rattle.model.specs.Machine.{most64, openPhase, core, reading, state};
 ghost use Rattle.counting.specs.Kinds.{withKinds};
 ghost use Rattle.effects.specs.Judging.{RightTables};
 ghost use Rattle.study.specs.Spans.{lengthOf, afterFirst, Records};
@@ -19,12 +20,14 @@ use state::Core;
 use state::Counts;
 use state::Reading;
 use state::Tally;
+use state::phase;
+use state::record;
 
 // Whether the reading stands between two records.
 pub(crate) fn between(h: Reading) -> bool
-    ensures { λ r. ⌜ (r ≡ true → (h .phase ≡ 0) × (h .have ≡ 0)) ⌝ }
+    ensures { λ r. ⌜ (r ≡ true → (h .phase ≡ openPhase) × (h .have ≡ 0)) ⌝ }
 {
-    if h.phase == 0 {
+    if h.phase == phase::OPEN {
         if h.have == 0 {
             return true;
         }
@@ -34,13 +37,13 @@ pub(crate) fn between(h: Reading) -> bool
 
 // Whether a whole leak, branching, outcome or effect begins here, with room for any record.
 fn scenario_here(h: Reading, bytes: &[u8]) -> bool
-    ensures { λ r. ⌜ (r ≡ true → (h .phase ≡ 0) × (h .have ≡ 0) × (16 ≤ length (now (bytes .entry))) × (3 ≤ getD (now (bytes .entry)) 0 0) × (getD (now (bytes .entry)) 0 0 ≤ 6)) ⌝ }
+    ensures { λ r. ⌜ (r ≡ true → (h .phase ≡ openPhase) × (h .have ≡ 0) × (16 ≤ length (now (bytes .entry))) × (leakKind ≤ getD (now (bytes .entry)) 0 0) × (getD (now (bytes .entry)) 0 0 ≤ effectKind)) ⌝ }
 {
     if between(h) {
         if 16 <= bytes.len() {
             let kind = bytes[0];
-            if 3 <= kind {
-                if kind <= 6 {
+            if record::LEAK <= kind {
+                if kind <= record::EFFECT {
                     return true;
                 }
             }
@@ -52,14 +55,14 @@ fn scenario_here(h: Reading, bytes: &[u8]) -> bool
 // All but the arrays where a record of n bytes has been entered, at a place.
 pub(crate) fn entered_at(k: Counts, b: Branch, y: Tally, at: u64, n: u8) -> Core
     requires { ⌜ at + n ≤ most64 ⌝ }
-    ensures { λ r. ⌜ r ≡ core (reading 0 n (at + n) at 0 0) k b y ⌝ }
+    ensures { λ r. ⌜ r ≡ core (reading openPhase n (at + n) at 0 0) k b y ⌝ }
 {
     Core {
         reading: Reading {
             place: at + (n as u64),
             start: at,
             at: 0,
-            phase: 0,
+            phase: phase::OPEN,
             have: n,
             number: 0,
         },
@@ -86,22 +89,22 @@ fn read_one(
     facts: &mut [u64; 256],
     kinds: &mut [u64; 6],
 ) -> Run
-    requires { ⌜ RightTables (now table) (now near) (now rows) × (16 ≤ length (now p)) × (3 ≤ getD (now p) 0 0) × (getD (now p) 0 0 ≤ 6) × (at + length (now p) ≤ most64) ⌝ }
+    requires { ⌜ RightTables (now table) (now near) (now rows) × (16 ≤ length (now p)) × (leakKind ≤ getD (now p) 0 0) × (getD (now p) 0 0 ≤ effectKind) × (at + length (now p) ≤ most64) ⌝ }
     ensures { λ r. ⌜ Records (now (p .entry)) (r .at) ⌝ }
-    ensures { λ r. ⌜ ((q : List ℕ) → state (withKinds (r .core) (now (kinds .exit))) (replicate 16 0) (now (stack .exit)) (now (sums .exit)) (now (margins .exit)) (now (facts .exit)) ≡ afterFirst (state (withKinds (core (reading 0 (lengthOf (now (p .entry))) (at + lengthOf (now (p .entry))) at 0 0) k b y) (now (kinds .entry))) q (now (stack .entry)) (now (sums .entry)) (now (margins .entry)) (now (facts .entry))) (now (p .entry)) (r .at)) ⌝ }
+    ensures { λ r. ⌜ ((q : List ℕ) → state (withKinds (r .core) (now (kinds .exit))) (replicate 16 0) (now (stack .exit)) (now (sums .exit)) (now (margins .exit)) (now (facts .exit)) ≡ afterFirst (state (withKinds (core (reading openPhase (lengthOf (now (p .entry))) (at + lengthOf (now (p .entry))) at 0 0) k b y) (now (kinds .entry))) q (now (stack .entry)) (now (sums .entry)) (now (margins .entry)) (now (facts .entry))) (now (p .entry)) (r .at)) ⌝ }
 {
     let first = &p[0..16];
     let kind = decoding::kind(first);
-    if kind == 6 {
+    if kind == record::EFFECT {
         let c = entered_at(k, b, y, at, 9);
         return read_effects(table, near, rows, c, p, sums, margins, facts);
     }
-    if kind == 5 {
+    if kind == record::OUTCOME {
         let c = entered_at(k, b, y, at, 4);
         let r = read_outcome(c, first, stack, kinds);
         return Run { core: r, at: 4 };
     }
-    if kind == 4 {
+    if kind == record::BRANCHING {
         let c = entered_at(k, b, y, at, 5);
         let r = read_branching(c, first, stack);
         return Run { core: r, at: 5 };
@@ -125,9 +128,9 @@ fn read_from_first(
     facts: &mut [u64; 256],
     kinds: &mut [u64; 6],
 ) -> Run
-    requires { ⌜ RightTables (now table) (now near) (now rows) × (16 ≤ length (now bytes)) × (3 ≤ getD (now bytes) 0 0) × (getD (now bytes) 0 0 ≤ 6) ⌝ }
+    requires { ⌜ RightTables (now table) (now near) (now rows) × (16 ≤ length (now bytes)) × (leakKind ≤ getD (now bytes) 0 0) × (getD (now bytes) 0 0 ≤ effectKind) ⌝ }
     ensures { λ r. ⌜ Records (now (bytes .entry)) (r .at) ⌝ }
-    ensures { λ r. ⌜ ((q : List ℕ) → state (withKinds (r .core) (now (kinds .exit))) (replicate 16 0) (now (stack .exit)) (now (sums .exit)) (now (margins .exit)) (now (facts .exit)) ≡ afterFirst (state (withKinds (core (reading 0 (lengthOf (now (bytes .entry))) (lengthOf (now (bytes .entry))) 0 0 0) (c .counts) (c .branch) (c .tally)) (now (kinds .entry))) q (now (stack .entry)) (now (sums .entry)) (now (margins .entry)) (now (facts .entry))) (now (bytes .entry)) (r .at)) ⌝ }
+    ensures { λ r. ⌜ ((q : List ℕ) → state (withKinds (r .core) (now (kinds .exit))) (replicate 16 0) (now (stack .exit)) (now (sums .exit)) (now (margins .exit)) (now (facts .exit)) ≡ afterFirst (state (withKinds (core (reading openPhase (lengthOf (now (bytes .entry))) (lengthOf (now (bytes .entry))) 0 0 0) (c .counts) (c .branch) (c .tally)) (now (kinds .entry))) q (now (stack .entry)) (now (sums .entry)) (now (margins .entry)) (now (facts .entry))) (now (bytes .entry)) (r .at)) ⌝ }
 {
     let mut h = c.reading;
     let mut k = c.counts;
@@ -181,7 +184,7 @@ pub(crate) fn read_scenarios(
     facts: &mut [u64; 256],
     kinds: &mut [u64; 6],
 ) -> Run
-    requires { ⌜ RightTables (now table) (now near) (now rows) × (16 ≤ length (now bytes)) × (3 ≤ getD (now bytes) 0 0) × (getD (now bytes) 0 0 ≤ 6) ⌝ }
+    requires { ⌜ RightTables (now table) (now near) (now rows) × (16 ≤ length (now bytes)) × (leakKind ≤ getD (now bytes) 0 0) × (getD (now bytes) 0 0 ≤ effectKind) ⌝ }
     ensures { λ r. ⌜ Records (now (bytes .entry)) (r .at) ⌝ }
     ensures { λ r. ⌜ ((q : List ℕ) → state (withKinds (r .core) (now (kinds .exit))) (replicate 16 0) (now (stack .exit)) (now (sums .exit)) (now (margins .exit)) (now (facts .exit)) ≡ afterFirst (state (withKinds c (now (kinds .entry))) q (now (stack .entry)) (now (sums .entry)) (now (margins .entry)) (now (facts .entry))) (now (bytes .entry)) (r .at)) ⌝ }
 {

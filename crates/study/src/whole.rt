@@ -6,7 +6,7 @@ ghost use Prim.Native.Nat.{ℕ, _+_, _-_, _<_, _≤_};
 ghost use lib.ListN.{length, getD, take, drop, replicate};
 ghost use Rattle.numeric.specs.Choice.{pick};
 ghost use Rattle.model.specs.Verdict.{decode};
-ghost use Rattle.model.specs.Machine.{core, reading, state, recordRead, cleared, step, readAll};
+ghost use Rattle.model.specs.Machine.{openPhase, core, reading, state, recordRead, cleared, step, readAll};
 ghost use Rattle.counting.specs.Kinds.{withKinds};
 ghost use Rattle.effects.specs.Judging.{RightTables};
 ghost use Rattle.study.specs.Spans.{Between, Next, lengthOf, afterFirst, Records};
@@ -19,6 +19,7 @@ use reading::Entered;
 use reading::enter_byte;
 use state::Core;
 use state::Reading;
+use state::record;
 
 // Whether a whole record of a known kind begins here, with room for any.
 fn next_here(h: Reading, bytes: &[u8]) -> bool
@@ -39,7 +40,7 @@ fn next_here(h: Reading, bytes: &[u8]) -> bool
 // The record that begins here is entered whole.
 fn entered(c: Core, bytes: &[u8]) -> Core
     requires { ⌜ Between (c .reading) ⌝ }
-    ensures { λ r. ⌜ r ≡ core (reading 0 (lengthOf (now (bytes .entry))) (c .reading .place + lengthOf (now (bytes .entry))) (c .reading .place) 0 0) (c .counts) (c .branch) (c .tally) ⌝ }
+    ensures { λ r. ⌜ r ≡ core (reading openPhase (lengthOf (now (bytes .entry))) (c .reading .place + lengthOf (now (bytes .entry))) (c .reading .place) 0 0) (c .counts) (c .branch) (c .tally) ⌝ }
 {
     let n = decoding::body_length(decoding::kind(bytes)) + 1;
     let h = c.reading;
@@ -64,8 +65,8 @@ fn read_some(
     ensures { λ r. ⌜ ((q : List ℕ) → state (withKinds (r .core) (now (kinds .exit))) (replicate 16 0) (now (stack .exit)) (now (sums .exit)) (now (margins .exit)) (now (facts .exit)) ≡ afterFirst (state (withKinds c (now (kinds .entry))) q (now (stack .entry)) (now (sums .entry)) (now (margins .entry)) (now (facts .entry))) (now (bytes .entry)) (r .at)) ⌝ }
 {
     let kind = decoding::kind(bytes);
-    if 3 <= kind {
-        if kind <= 6 {
+    if record::LEAK <= kind {
+        if kind <= record::EFFECT {
             return read_scenarios(
                 table,
                 near,
@@ -139,7 +140,7 @@ fn clear(p: &mut [u8; 16])
 fn enter(direct: bool, c: Core, bytes: &[u8], p: &mut [u8; 16]) -> Entered
     requires { ⌜ (direct ≡ true → Next (c .reading) (now bytes)) × (0 < length (now bytes)) ⌝ }
     ensures { λ r. ⌜ length (now (p .exit)) ≡ length (now (p .entry)) ⌝ }
-    ensures { λ r. ⌜ (direct ≡ true → (r .whole ≡ true) × (r .core ≡ core (reading 0 (lengthOf (now (bytes .entry))) (c .reading .place + lengthOf (now (bytes .entry))) (c .reading .place) 0 0) (c .counts) (c .branch) (c .tally))) ⌝ }
+    ensures { λ r. ⌜ (direct ≡ true → (r .whole ≡ true) × (r .core ≡ core (reading openPhase (lengthOf (now (bytes .entry))) (c .reading .place + lengthOf (now (bytes .entry))) (c .reading .place) 0 0) (c .counts) (c .branch) (c .tally))) ⌝ }
     ensures { λ r. ⌜ (direct ≡ false → (l k s m f : List ℕ) → step (state (withKinds c l) (now (p .entry)) k s m f) (getD (now (bytes .entry)) 0 0) ≡ pick (r .whole) (cleared (recordRead (state (withKinds (r .core) l) (now (p .exit)) k s m f) (decode (now (p .exit))))) (state (withKinds (r .core) l) (now (p .exit)) k s m f)) ⌝ }
 {
     if direct {

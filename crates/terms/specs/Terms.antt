@@ -11,6 +11,9 @@ noEffect = 0
 abbrev pub poolFire : ℕ
 poolFire = 1
 
+abbrev pub jetFire : ℕ
+jetFire = 2
+
 abbrev pub fireball : ℕ
 fireball = 3
 
@@ -27,6 +30,9 @@ people = 0
 abbrev pub atmospheric : ℕ
 atmospheric = 1
 
+abbrev pub pressurised : ℕ
+pressurised = 2
+
 abbrev pub tower : ℕ
 tower = 3
 
@@ -36,7 +42,10 @@ machine = 4
 abbrev pub pipe : ℕ
 pipe = 5
 
--- settings: 0 individual risk, 1 social outdoors, 2 social indoors
+-- settings: 0 individual risk, 1 social outdoors, 2 social indoors; equipment has 0
+abbrev pub individual : ℕ
+individual = 0
+
 abbrev pub outdoors : ℕ
 outdoors = 1
 

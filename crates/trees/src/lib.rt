@@ -2,7 +2,7 @@
 ghost use mathlib.Core.Path.{_≡_};
 ghost use Prim.Native.Nat.{_+_, _-_};
 ghost use Rattle.numeric.specs.Share.{splitOf};
-ghost use Rattle.model.specs.Machine.{core, taken, oneRecord, oneLeak, store, packed, aboveOf, top, leakStack, branchStack, leakBranch, branchedBranch, outcomeBranch, outcomeTally, frequencyOf};
+ghost use Rattle.model.specs.Machine.{core, openPhase, taken, oneRecord, oneLeak, store, packed, aboveOf, top, leakStack, branchStack, leakBranch, branchedBranch, outcomeBranch, outcomeTally, frequencyOf};
 ghost use Rattle.counting.specs.Kinds.{withKinds};
 use state::Core;
 
@@ -60,7 +60,7 @@ pub fn next_tree(l: &[u64; 9], height: u8) -> u64
 }
 
 pub fn take_leak(c: Core, number: u32, frequency: u64, stack: &mut [u64; 9]) -> Core
-    ensures { λ r. ⌜ r ≡ core (taken (c .reading) 0) (oneLeak (c .counts) number frequency) (leakBranch (c .branch) frequency) (c .tally) ⌝ }
+    ensures { λ r. ⌜ r ≡ core (taken (c .reading) openPhase) (oneLeak (c .counts) number frequency) (leakBranch (c .branch) frequency) (c .tally) ⌝ }
     ensures { λ r. ⌜ now (stack .exit) ≡ leakStack (now (stack .entry)) frequency ⌝ }
 {
     put_tree(stack, 0, pack(frequency, 0));
@@ -84,7 +84,7 @@ fn branch_stack(stack: &mut [u64; 9], height: u8, chance: u32)
 }
 
 pub fn take_branching(c: Core, chance: u32, stack: &mut [u64; 9]) -> Core
-    ensures { λ r. ⌜ r ≡ core (taken (c .reading) 0) (oneRecord (c .counts)) (branchedBranch (c .branch)) (c .tally) ⌝ }
+    ensures { λ r. ⌜ r ≡ core (taken (c .reading) openPhase) (oneRecord (c .counts)) (branchedBranch (c .branch)) (c .tally) ⌝ }
     ensures { λ r. ⌜ now (stack .exit) ≡ branchStack (now (stack .entry)) (c .branch .height) chance ⌝ }
 {
     let b = c.branch;
@@ -94,7 +94,7 @@ pub fn take_branching(c: Core, chance: u32, stack: &mut [u64; 9]) -> Core
 
 // The lent array has the totals of the kinds; those in the core are old, and stay.
 pub fn take_outcome(c: Core, kind: u8, effects: u16, stack: &[u64; 9], kinds: &mut [u64; 6]) -> Core
-    ensures { λ r. ⌜ withKinds r (now (kinds .exit)) ≡ core (taken (c .reading) 0) (oneRecord (c .counts)) (outcomeBranch (c .branch) (top (now (stack .entry)) (c .branch .height)) kind effects) (outcomeTally (withKinds c (now (kinds .entry)) .tally) kind (frequencyOf (top (now (stack .entry)) (c .branch .height)))) ⌝ }
+    ensures { λ r. ⌜ withKinds r (now (kinds .exit)) ≡ core (taken (c .reading) openPhase) (oneRecord (c .counts)) (outcomeBranch (c .branch) (top (now (stack .entry)) (c .branch .height)) kind effects) (outcomeTally (withKinds c (now (kinds .entry)) .tally) kind (frequencyOf (top (now (stack .entry)) (c .branch .height)))) ⌝ }
     ensures { λ r. ⌜ r .tally ≡ c .tally ⌝ }
 {
     let b = c.branch;

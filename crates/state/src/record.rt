@@ -1,0 +1,14 @@
+// The kinds of records, which their first bytes say.
+pub const OPENING: u8 = 1;
+
+pub const TARGET: u8 = 2;
+
+pub const LEAK: u8 = 3;
+
+pub const BRANCHING: u8 = 4;
+
+pub const OUTCOME: u8 = 5;
+
+pub const EFFECT: u8 = 6;
+
+pub const CLOSING: u8 = 7;
