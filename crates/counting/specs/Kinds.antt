@@ -1,4 +1,4 @@
--- The six totals of the outcome kinds apart from the others: in a list, and put back. Assumes nothing.
+-- For the proofs. The six totals of the outcome kinds apart from the others: in a list, and put back. Assumes nothing.
 use mathlib.Core.List.{List, [], _∷_}
 use Prim.Native.Nat.{ℕ}
 use lib.ListN.{getD}

@@ -9,8 +9,8 @@ use native.Mathlib.Numerals.{add-one}
 use lib.ListN.{take, drop}
 use lib.Seq.{getD-take}
 use Rattle.numeric.specs.Choice.{pick}
-use Rattle.log2.specs.Logarithm.{LogTables}
-use Rattle.probit.specs.Table.{RowsReached}
+use Rattle.log2.specs.Tables.{LogTables}
+use Rattle.probit.specs.Rows.{RowsReached}
 use Rattle.terms.specs.Scales.{Scales}
 use Rattle.terms.specs.Terms.{seconds}
 use Rattle.terms.proofs.ScaleLaws.{lent-is-standard}

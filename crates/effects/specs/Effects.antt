@@ -1,4 +1,4 @@
--- Effects of one outcome, taken one after the other: the machine's steps on what they change. Assumes nothing.
+-- For the proofs. Effects of one outcome, taken one after the other: the machine's steps on what they change. Assumes nothing.
 use mathlib.Core.Bool.{Bool, true, false}
 use mathlib.Core.List.{List}
 use Prim.Native.Nat.{ℕ, zero, suc, _+_, _*_}

@@ -1,8 +1,8 @@
--- The judged chance of an effect, by any function that judges. Assumes nothing.
+-- For the proofs. The judged chance of an effect, by any function that judges. Assumes nothing.
 use mathlib.Core.Path.{_≡_}
 use mathlib.Core.List.{List}
 use Prim.Native.Nat.{ℕ}
-use Rattle.terms.specs.Scales.{lent}
+use Rattle.terms.specs.Lent.{lent}
 use Rattle.terms.specs.Terms.{seconds}
 use Rattle.terms.specs.declared.Judged.{Judged}
 use Rattle.terms.specs.declared.Target.{Target}

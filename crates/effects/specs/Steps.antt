@@ -1,4 +1,4 @@
--- What one effect leaves of the figures of the targets. Assumes nothing.
+-- For the proofs. What one effect leaves of the figures of the targets. Assumes nothing.
 use mathlib.Core.Path.{_≡_}
 use mathlib.Core.Bool.{true, false}
 use mathlib.Core.List.{List}

@@ -1,4 +1,4 @@
--- 01, "Damage (000, table D.2)": the chance of damage to equipment, by any logarithm and any chance of a probit. Assumes nothing.
+-- To be believed. 01, "Damage (000, table D.2)": the chance of damage to equipment, by any logarithm and any chance of a probit. Assumes nothing.
 use Prim.Native.Nat.{ℕ, _+_, _*_, _/_}
 use lib.IntN.{ℤ, pos, _-ℤ_}
 use Rattle.numeric.specs.Choice.{ifEq, ifLt}

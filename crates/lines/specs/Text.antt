@@ -1,4 +1,4 @@
--- The lines of the report's text as bytes: 01, "The specimen study". Assumes nothing.
+-- To be believed. The lines of the report's text as bytes: 01, "The specimen study". Assumes nothing.
 use mathlib.Core.List.{List, [], _∷_, _++_}
 use Prim.Native.Nat.{ℕ, zero, suc, _+_, _/_, _%_}
 use lib.ListN.{length, take}

@@ -1,4 +1,4 @@
--- What a program in another language is told of a study's bytes. Assumes nothing.
+-- For the proofs. What a program in another language is told of a study's bytes. Assumes nothing.
 use mathlib.Core.List.{List}
 use Prim.Native.Nat.{ℕ}
 use Rattle.model.specs.Machine.{fresh, readAll, targetIn, totalsIn, fetch}

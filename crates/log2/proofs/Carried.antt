@@ -8,7 +8,8 @@ use lib.ListN.{getD}
 use lib.Count.{leadingZeros}
 use Rattle.numeric.specs.Choice.{ifLt}
 use Rattle.numeric.proofs.ChoiceLaws.{lt-case, ge-case}
-use Rattle.log2.specs.Logarithm.{logarithm, NearStep, NearSteps, LogTables, stepBy, logBy, LogByTables}
+use Rattle.log2.specs.Logarithm.{logarithm}
+use Rattle.log2.specs.Tables.{NearStep, NearSteps, LogTables, stepBy, logBy, LogByTables}
 use Rattle.log2.proofs.Laws.{logarithm-small, logarithm-large, log-scaled, Scaled, scaled}
 use Rattle.log2.proofs.TableSteps.{at-near, at-before}
 

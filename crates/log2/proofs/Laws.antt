@@ -9,7 +9,8 @@ use lib.Dec.{leb}
 use lib.Pow.{pow-pos, pow-add, pow-mono, shl-exact}
 use lib.Count.{leadingZeros, leading-top}
 use borrow.Author.Tests.{le-leb, lt-leb, leb-true}
-use Rattle.log2.specs.Logarithm.{greatest, logarithm, LogarithmRule, LogarithmOfZero, StepOf}
+use Rattle.log2.specs.Logarithm.{greatest, logarithm, LogarithmRule, LogarithmOfZero}
+use Rattle.log2.specs.Tables.{StepOf}
 
 -- a number at which the test holds, and above which it fails, is the greatest
 greatest-is : (f : ℕ → Bool) (b r : ℕ) → r ≤ b → f r ≡ true → ((j : ℕ) → r < j → f j ≡ false) → greatest f b ≡ r

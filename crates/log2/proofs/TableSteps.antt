@@ -10,7 +10,7 @@ use lib.Pow.{pow-mono}
 use lib.Dec.{T, leb, ltb, leb→le, ltb→lt}
 use lib.ListN.{length, getD}
 use Rattle.numeric.proofs.TableLaws.{both, both-left, both-right, every, entry, getD-entry, at}
-use Rattle.log2.specs.Logarithm.{Threshold, Thresholds, NearStep, OneNearStep, NearSteps, StepOf}
+use Rattle.log2.specs.Tables.{Threshold, Thresholds, NearStep, OneNearStep, NearSteps, StepOf}
 
 -- one of two tests passes
 abbrev either : Bool → Bool → Bool

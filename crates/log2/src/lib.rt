@@ -2,7 +2,8 @@
 ghost use mathlib.Core.Path.{_≡_};
 ghost use Prim.Native.Nat.{_≤_, _/_, _%_, _^_};
 ghost use lib.ListN.{getD};
-ghost use Rattle.log2.specs.Logarithm.{logarithm, Thresholds, NearSteps, logBy};
+ghost use Rattle.log2.specs.Logarithm.{logarithm};
+ghost use Rattle.log2.specs.Tables.{Thresholds, NearSteps, logBy};
 
 // For each step k of the octave from 2^31 on, the least mantissa whose 256th power reaches 2^(31 * 256 + k).
 const THRESHOLDS: [u32; 256] = [

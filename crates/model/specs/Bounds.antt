@@ -1,4 +1,4 @@
--- 01, "Records": every bound of a study, in one place. Assumes nothing.
+-- To be believed. 01, "Records": every bound of a study, in one place. Assumes nothing.
 use Prim.Native.Nat.{ℕ}
 
 abbrev pub mostTargets : ℕ

@@ -1,4 +1,4 @@
--- What each call answers, from the bytes joined before it and the call alone: 01, "Numbers the desk says no with". Assumes nothing.
+-- To be believed. What each call answers, from the bytes joined before it and the call alone: 01, "Numbers the desk says no with". Assumes nothing.
 use mathlib.Core.Bool.{Bool, true, false}
 use mathlib.Core.List.{List, [], _∷_, _++_}
 use Prim.Native.Nat.{ℕ, _<_}

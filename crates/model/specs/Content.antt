@@ -1,4 +1,4 @@
--- The content of a study, free of bytes: 01, "Records". Assumes nothing.
+-- To be believed. The content of a study, free of bytes: 01, "Records". Assumes nothing.
 use mathlib.Core.List.{List}
 use Prim.Native.Nat.{ℕ}
 use Rattle.terms.specs.Terms.{Clock, seconds}

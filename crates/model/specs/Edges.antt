@@ -1,4 +1,4 @@
--- Figures on both sides of 01's bounds, grades, thresholds and tables, worked out from 01 by hand and by a calculator: as one table. Assumes nothing.
+-- Proved. Figures on both sides of 01's bounds, grades, thresholds and tables, worked out from 01 by hand and by a calculator: as one table. Assumes nothing.
 use mathlib.Core.Path.{_≡_}
 use mathlib.Core.Bool.{Bool, true, false}
 use mathlib.Core.List.{List, [], _∷_}

@@ -1,4 +1,4 @@
--- 01, "Numbers the desk says no with": the fault of a record, from the records before it. Assumes nothing.
+-- To be believed. 01, "Numbers the desk says no with": the fault of a record, from the records before it. Assumes nothing.
 use mathlib.Core.List.{List, [], _∷_}
 use Prim.Native.Nat.{ℕ, suc, _+_, _-_}
 use lib.ListN.{length, getD, drop}

@@ -1,4 +1,4 @@
--- 01, "Records": the records of a content, and their bytes. Assumes nothing.
+-- To be believed. 01, "Records": the records of a content, and their bytes. Assumes nothing.
 use mathlib.Core.List.{List, [], _∷_, _++_}
 use Prim.Native.Nat.{ℕ, zero, suc, _+_, _/_, _%_, _^_}
 use lib.ListN.{length}

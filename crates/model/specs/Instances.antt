@@ -1,4 +1,4 @@
--- Two contents with their bytes and their figures, as numbers. Assumes nothing.
+-- Proved. Two contents with their bytes and their figures, as numbers. Assumes nothing.
 use mathlib.Core.Path.{_≡_}
 use mathlib.Core.List.{List, [], _∷_, _++_}
 use Prim.Native.Nat.{ℕ, zero, suc}

@@ -1,4 +1,4 @@
--- The machine that reads a study byte by byte in fixed memory. It is total on every state: sums stop at the greatest number that
+-- For the proofs. The machine that reads a study byte by byte in fixed memory. It is total on every state: sums stop at the greatest number that
 -- their memory holds, and nothing is written past an end. Assumes nothing.
 use mathlib.Core.Bool.{Bool, true, false}
 use mathlib.Core.List.{List, [], _∷_, _++_}

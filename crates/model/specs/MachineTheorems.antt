@@ -1,4 +1,4 @@
--- The theorems over every list of calls from the fresh study. Proofs stand in proofs/. Assumes nothing.
+-- Proved. The theorems over every list of calls from the fresh study. Proofs stand in proofs/. Assumes nothing.
 use mathlib.Core.Path.{_≡_}
 use mathlib.Core.Logic.{_↔_, _⊎_}
 use mathlib.Core.List.{List, [], _∷_, _++_, map}

@@ -1,4 +1,4 @@
--- The theorems of the meaning, over every valid content. Proofs stand in proofs/. Assumes nothing.
+-- Proved. The theorems of the meaning, over every valid content. Proofs stand in proofs/. Assumes nothing.
 use mathlib.Core.Path.{_≡_}
 use mathlib.Core.Logic.{_↔_, _⊎_}
 use mathlib.Core.List.{List, [], _∷_, List·Memᴰ}

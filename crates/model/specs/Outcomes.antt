@@ -1,4 +1,4 @@
--- The outcomes of a content: 01, "Frequencies down a tree", and the exact sum of "What the promises have to say". Assumes nothing.
+-- To be believed. The outcomes of a content: 01, "Frequencies down a tree", and the exact sum of "What the promises have to say". Assumes nothing.
 use mathlib.Core.List.{List, [], _∷_, _++_}
 use Prim.Native.Nat.{ℕ, _+_, _-_, _*_, _/_, _^_}
 use lib.ListN.{length}

@@ -1,4 +1,4 @@
--- What a report says of a content: 01, "Frequencies down a tree", "Sums, grades, list" and "What the promises have to say". Assumes nothing.
+-- To be believed. What a report says of a content: 01, "Frequencies down a tree", "Sums, grades, list" and "What the promises have to say". Assumes nothing.
 use mathlib.Core.Path.{_≡_}
 use mathlib.Core.Bool.{Bool, true, false}
 use mathlib.Core.List.{List, List·Memᴰ}

@@ -1,4 +1,4 @@
--- Calls on the code's own values, as the contracts of the calls say them, and the machine's theorems once more of these values. Every form that the code
+-- Proved. Calls on the code's own values, as the contracts of the calls say them, and the machine's theorems once more of these values. Every form that the code
 -- keeps a study in uses this frame: S is the type of its values, and `view` says which state of the machine each of them is. Assumes nothing.
 use mathlib.Core.Path.{_≡_}
 use mathlib.Core.List.{List, [], _∷_, _++_}

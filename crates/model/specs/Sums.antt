@@ -1,4 +1,4 @@
--- Totals and tests over a list. Assumes nothing.
+-- To be believed. Totals and tests over a list. Assumes nothing.
 use mathlib.Core.Bool.{Bool, true, false}
 use mathlib.Core.List.{List, [], _∷_, _++_}
 use Prim.Native.Nat.{ℕ, zero, suc, _+_}

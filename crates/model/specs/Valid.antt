@@ -1,4 +1,4 @@
--- What a study may hold: 01, "Records", all that refusals 2 to 5 name, said positively. Assumes nothing.
+-- To be believed. What a study may hold: 01, "Records", all that refusals 2 to 5 name, said positively. Assumes nothing.
 use mathlib.Core.Path.{_≡_}
 use mathlib.Core.List.{List, [], _∷_}
 use Prim.Native.Nat.{ℕ, suc, _^_, _<_, _≤_}

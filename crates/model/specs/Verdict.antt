@@ -1,4 +1,4 @@
--- What the desk says of bytes: 01, "Numbers the desk says no with". It goes by the records that the kinds' lengths cut. Assumes nothing.
+-- To be believed. What the desk says of bytes: 01, "Numbers the desk says no with". It goes by the records that the kinds' lengths cut. Assumes nothing.
 use mathlib.Core.Path.{_≡_}
 use mathlib.Core.List.{List, [], _∷_, _++_}
 use Prim.Native.Nat.{ℕ, zero, suc, _+_, _*_}

@@ -1,4 +1,4 @@
--- Choices by a comparison of two numbers. They stay shut: proofs go by the case laws of proofs/ChoiceLaws.antt.
+-- To be believed. Choices by a comparison of two numbers. They stay shut: proofs go by the case laws of proofs/ChoiceLaws.antt.
 -- Assumes nothing.
 use mathlib.Core.Bool.{Bool, true, false}
 use Prim.Native.Nat.{ℕ}

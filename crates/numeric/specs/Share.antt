@@ -1,4 +1,4 @@
--- A share of a frequency. Assumes nothing.
+-- To be believed. A share of a frequency. Assumes nothing.
 use Prim.Native.Nat.{ℕ, _-_, _*_, _/_, min}
 use Rattle.numeric.specs.declared.Branches.{Branches}
 

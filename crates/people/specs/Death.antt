@@ -1,4 +1,4 @@
--- 01, "Death (004, 11.3.4 and 11.5.1)": the chance of death at a place of people, by any logarithm and any chance of a probit. Assumes nothing.
+-- To be believed. 01, "Death (004, 11.3.4 and 11.5.1)": the chance of death at a place of people, by any logarithm and any chance of a probit. Assumes nothing.
 use Prim.Native.Nat.{ℕ, _+_, _*_, _/_, min}
 use lib.IntN.{ℤ, pos, _-ℤ_}
 use Rattle.numeric.specs.Choice.{ifEq, ifLe}

@@ -1,9 +1,9 @@
 // The chance of death at a place of people. The caller lends the tables: the logarithm's thresholds and near steps, and the probit's rows.
 ghost use mathlib.Core.Path.{_≡_};
 ghost use Prim.Native.Nat.{_+_, _*_, _/_, min};
-ghost use Rattle.log2.specs.Logarithm.{logBy};
-ghost use Rattle.probit.specs.Chance.{chanceBy};
-ghost use Rattle.terms.specs.Scales.{lent};
+ghost use Rattle.log2.specs.Tables.{logBy};
+ghost use Rattle.probit.specs.Rows.{chanceBy};
+ghost use Rattle.terms.specs.Lent.{lent};
 ghost use Rattle.people.specs.Death.{fireProbitBy, settingShare, fireDeathBy, flashDeath, blastDeath};
 use terms::setting;
 

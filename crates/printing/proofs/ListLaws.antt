@@ -14,7 +14,8 @@ use Rattle.study.specs.View.{view}
 use Rattle.study.specs.declared.pieces.Taken.{Taken}
 use Rattle.numeric.specs.Choice.{ifEq}
 use Rattle.numeric.proofs.ChoiceLaws.{eq-case, ne-case}
-use Rattle.printing.specs.Report.{kindLines, targetLines, closedLines, linesOf, reportLines}
+use Rattle.printing.specs.Report.{kindLines, targetLines, closedLines}
+use Rattle.printing.specs.Lines.{linesOf, reportLines}
 
 -- one line
 pub only-first : (x : List ℕ) (i : ℕ) → i ≡ 0 → getD (x ∷ []) i [] ≡ x

@@ -25,7 +25,8 @@ use Rattle.study.specs.View.{view}
 use Rattle.study.specs.Runs.{Called, Ran}
 use Rattle.study.proofs.RunLaws.{ran-state, piece-read}
 use Rattle.lines.specs.Text.{refusedLine, targetLine}
-use Rattle.printing.specs.Report.{targetLines, closedLines, linesOf, reportLines}
+use Rattle.printing.specs.Report.{targetLines, closedLines}
+use Rattle.printing.specs.Lines.{linesOf, reportLines}
 use Rattle.printing.specs.Prints.{TakenAfter, nothing, last, refusalLine, Printed, Prints}
 use Rattle.printing.proofs.ListLaws.{lines-closed, lines-refused, report-seven, report-other}
 

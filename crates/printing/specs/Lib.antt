@@ -1,3 +1,4 @@
 pub mod Report
+pub mod Lines
 pub mod Prints
 pub mod Specimen

@@ -1,4 +1,4 @@
--- The text that is printed, by the bytes that were read. Assumes nothing.
+-- Proved. The text that is printed, by the bytes that were read. Assumes nothing.
 use mathlib.Core.Path.{_≡_}
 use mathlib.Core.List.{List, [], _∷_, _++_}
 use Prim.Native.Nat.{ℕ, _<_}
@@ -14,7 +14,8 @@ use Rattle.study.specs.declared.pieces.Taken.{Taken}
 use Rattle.study.specs.View.{view}
 use Rattle.study.specs.Runs.{Called, Ran}
 use Rattle.lines.specs.Text.{refusedLine}
-use Rattle.printing.specs.Report.{closedLines, reportLines}
+use Rattle.printing.specs.Report.{closedLines}
+use Rattle.printing.specs.Lines.{reportLines}
 
 -- All bytes so far, and what the last piece with bytes in it left: after any calls from a fresh study on, or before the first piece.
 pub data TakenAfter : List ℕ → Taken → Type 0 where

@@ -1,4 +1,4 @@
--- 01, "The specimen study": the text that its bytes have. Assumes nothing.
+-- Proved. 01, "The specimen study": the text that its bytes have. Assumes nothing.
 use mathlib.Core.Path.{_≡_}
 use mathlib.Core.List.{List, [], _∷_}
 use Prim.Native.Nat.{ℕ}
@@ -6,7 +6,7 @@ use Prim.Native.Char.{code}
 use Prim.Native.String as S
 use Rattle.model.specs.Instances.{specimenBytes}
 use Rattle.study.specs.declared.pieces.Taken.{Taken}
-use Rattle.printing.specs.Report.{reportLines}
+use Rattle.printing.specs.Lines.{reportLines}
 use Rattle.printing.specs.Prints.{TakenAfter}
 
 -- a text as the codes of its characters

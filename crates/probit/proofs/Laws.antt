@@ -15,8 +15,9 @@ use lib.Seq.{getD-append-add}
 use borrow.Author.Tests.{lt-ltb, le-ltb, le-leb, lt-leb}
 use Rattle.numeric.specs.Choice.{pick}
 use Rattle.numeric.proofs.TableLaws.{both, both-left, both-right, every, entry, getD-entry, at, rising}
-use Rattle.probit.specs.Table.{Row, rowsFrom, wholePercents, tenthsOfPercent, probits, probitTable, FirstRows, lastChance, LastReached, RowsReached}
-use Rattle.probit.specs.Chance.{greatestChance, chanceOf, ChanceRule, chanceBy, ChanceByRows}
+use Rattle.probit.specs.Table.{Row, rowsFrom, wholePercents, tenthsOfPercent, probits, probitTable}
+use Rattle.probit.specs.Rows.{FirstRows, lastChance, LastReached, RowsReached, chanceBy, ChanceByRows}
+use Rattle.probit.specs.Chance.{greatestChance, chanceOf, ChanceRule}
 
 -- a difference of two naturals, by its sign
 difference-pos : (a b : ℕ) → b ≤ a → pos a -ℤ pos b ≡ pos (a - b)

@@ -1,13 +1,12 @@
--- 01, "From probit to chance": the chance that a probit stands for. Assumes nothing.
+-- To be believed. 01, "From probit to chance": the chance that a probit stands for. Assumes nothing.
 use mathlib.Core.Path.{_≡_}
 use mathlib.Core.Logic.{_⊎_}
 use mathlib.Core.List.{List, [], _∷_, List·Memᴰ}
-use Prim.Native.Nat.{ℕ, _-_, _/_, _≤_, max, min}
-use lib.ListN.{getD}
-use lib.IntN.{ℤ, pos, negsuc}
+use Prim.Native.Nat.{ℕ, _≤_, max}
+use lib.IntN.{ℤ, pos}
 use lib.Signed.{leZ, _≤ℤ_}
 use Rattle.numeric.specs.Choice.{pick}
-use Rattle.probit.specs.Table.{Row, probitTable, RowsReached}
+use Rattle.probit.specs.Table.{Row, probitTable}
 
 -- the greatest chance among the rows whose probit is at or below y, and 0 where there is none
 unfoldable pub greatestChance : List Row → ℤ → ℕ
@@ -33,12 +32,3 @@ pub record Unreached (y : ℤ) : Type 0 where
 
 abbrev pub ChanceRule : Type 0
 ChanceRule = (y : ℤ) → Unreached y ⊎ Reached y
-
--- What a lent table gives for a probit: the entry of its hundredth, counted from 266 on; the first below that, the last above.
-unfoldable pub chanceBy : List ℕ → ℤ → ℕ
-chanceBy l (pos y) = getD l (min ((y - 2660000) / 10000) 543) 0
-chanceBy l (negsuc y) = getD l 0 0
-
--- with the rows reached this is the chance
-abbrev pub ChanceByRows : Type 0
-ChanceByRows = (l : List ℕ) → RowsReached l → (y : ℤ) → chanceBy l y ≡ chanceOf y

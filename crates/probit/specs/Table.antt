@@ -1,8 +1,6 @@
--- 01, "From probit to chance": table D.3 of source document 000 as 01 prints it. Assumes nothing.
-use mathlib.Core.Path.{_≡_}
-use mathlib.Core.List.{List, [], _∷_, _++_, map}
-use Prim.Native.Nat.{ℕ, zero, suc, _+_, _*_, _<_, _≤_}
-use lib.ListN.{getD}
+-- To be believed. 01, "From probit to chance": table D.3 of source document 000 as 01 prints it. Assumes nothing.
+use mathlib.Core.List.{List, [], _∷_, _++_}
+use Prim.Native.Nat.{ℕ, _+_, _*_}
 
 -- a row: a chance in millionths, and the least probit, in millionths, that reaches it
 pub record Row : Type 0 where
@@ -40,24 +38,3 @@ rowsFrom chance step (y ∷ ys) = record { chance = chance; probit = y * 10000 }
 -- the whole table
 unfoldable pub probitTable : List Row
 probitTable = rowsFrom 10000 10000 wholePercents ++ rowsFrom 991000 1000 tenthsOfPercent
-
--- exactly the first n rows have a probit of at most h hundredths
-pub record FirstRows (h n : ℕ) : Type 0 where
-  pub within : n ≤ 108
-  pub reached : (i : ℕ) → i < n → getD probits i 0 ≤ h
-  pub beyond : (i : ℕ) → n ≤ i → i < 108 → h < getD probits i 0
-
--- the chance of the last of the first n rows, and 0 of none
-unfoldable pub lastChance : ℕ → ℕ
-lastChance zero = 0
-lastChance (suc n) = getD (map (λ (r : Row). r .chance) probitTable) n 0
-
--- c is the chance of the last row that h hundredths reach, and 0 where they reach none
-pub record LastReached (h c : ℕ) : Type 0 where
-  pub count : ℕ
-  pub rows : FirstRows h count
-  pub same : c ≡ lastChance count
-
--- a table of the chance of the last row reached at each hundredth from 266, which reaches none, to 809, which reaches all
-unfoldable pub RowsReached : List ℕ → Type 0
-RowsReached l = (i : ℕ) → i < 544 → LastReached (266 + i) (getD l i 0)

@@ -2,8 +2,7 @@
 ghost use mathlib.Core.Path.{_≡_};
 ghost use Prim.Native.Nat.{_-_, min};
 ghost use lib.IntN.{pos, _-ℤ_};
-ghost use Rattle.probit.specs.Table.{RowsReached};
-ghost use Rattle.probit.specs.Chance.{chanceBy};
+ghost use Rattle.probit.specs.Rows.{RowsReached, chanceBy};
 
 // For each hundredth from 266 to 809 the chance, in millionths, of the last row of table D.3 that it reaches.
 const ROWS: [u32; 544] = [

@@ -1,4 +1,4 @@
--- A byte more of a record: the parts of `Machine.step` before the record that it makes whole is read. Assumes nothing.
+-- For the proofs. A byte more of a record: the parts of `Machine.step` before the record that it makes whole is read. Assumes nothing.
 use mathlib.Core.Path.{_≡_}
 use mathlib.Core.Bool.{Bool, true, false}
 use mathlib.Core.List.{List}

@@ -1,4 +1,4 @@
--- The reading of bytes whose places count from where their first record begins, and where it stands in the study. Assumes nothing.
+-- For the proofs. The reading of bytes whose places count from where their first record begins, and where it stands in the study. Assumes nothing.
 use Prim.Native.Nat.{ℕ, _-_}
 use Rattle.numeric.specs.Choice.{ifEq}
 use Rattle.state.specs.declared.Reading.{Reading}

@@ -1,4 +1,4 @@
--- Effects that follow one another, read at once. Assumes nothing.
+-- For the proofs. Effects that follow one another, read at once. Assumes nothing.
 use Prim.Native.Nat.{ℕ, _+_, _-_, _*_}
 use Rattle.numeric.specs.Choice.{ifEq}
 use Rattle.state.specs.declared.Core.{Core}

@@ -1,4 +1,4 @@
--- The faults of a record by its place alone: 2, a record the order doesn't allow here, and 5, one record too many (01, "Numbers the desk says no
+-- For the proofs. The faults of a record by its place alone: 2, a record the order doesn't allow here, and 5, one record too many (01, "Numbers the desk says no
 -- with"). Assumes nothing.
 use Prim.Native.Nat.{ℕ}
 use Rattle.numeric.specs.Choice.{ifEq, ifLe}

@@ -1,4 +1,4 @@
--- The frame of runs (model Runs) for the study's own struct: what the contracts of `Study` say, and the theorems about every list of calls on it.
+-- Proved. The frame of runs (model Runs) for the study's own struct: what the contracts of `Study` say, and the theorems about every list of calls on it.
 -- Assumes nothing.
 use mathlib.Core.List.{List}
 use Rattle.model.specs.Calls.{Call, Answer}

@@ -1,4 +1,4 @@
--- What a piece's bytes are read in: whole records, or single bytes. Assumes nothing.
+-- For the proofs. What a piece's bytes are read in: whole records, or single bytes. Assumes nothing.
 use mathlib.Core.Path.{_≡_}
 use mathlib.Core.Logic.{_⊎_}
 use mathlib.Core.List.{List}

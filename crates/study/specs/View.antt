@@ -1,4 +1,4 @@
--- A study's struct as a state of the machine, and back. Assumes nothing.
+-- For the proofs. A study's struct as a state of the machine, and back. Assumes nothing.
 use mathlib.Core.Path.{_≡_}
 use Rattle.model.specs.Machine.{State, state}
 use Rattle.study.specs.declared.Study.{Study}

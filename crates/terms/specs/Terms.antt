@@ -1,4 +1,4 @@
--- The numbers of 01, "Records", for kinds, classes and settings, and the form of a judgement. Assumes nothing.
+-- To be believed. The numbers of 01, "Records", for kinds, classes and settings, and the form of a judgement. Assumes nothing.
 use mathlib.Core.Bool.{true, false}
 use Prim.Native.Nat.{ℕ}
 use Rattle.numeric.specs.Choice.{ifEq, ifLe}

@@ -2,7 +2,7 @@
 use mathlib.Core.Path.{ap, _∙_}
 use Prim.Native.Nat.{ℕ}
 use lib.IntN.{pos, _-ℤ_}
-use Rattle.probit.specs.Chance.{chanceBy}
+use Rattle.probit.specs.Rows.{chanceBy}
 use Rattle.equipment.specs.Damage.{blastProbitBy}
 use borrow.Author.Needs.{needs}
 use Rattle.equipment.proofs.blast_chance.Statement.{statement}

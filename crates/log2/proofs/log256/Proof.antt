@@ -9,7 +9,7 @@ use native.Mathlib.Omega.{arith}
 use lib.Count.{leadingZeros}
 use borrow.Author.Needs.{needs}
 use Rattle.numeric.proofs.ChoiceLaws.{lt-case, ge-case}
-use Rattle.log2.specs.Logarithm.{stepBy, logBy}
+use Rattle.log2.specs.Tables.{stepBy, logBy}
 use Rattle.log2.proofs.Laws.{Scaled, scaled, scaled-few}
 use Rattle.log2.proofs.log256.Statement.{statement}
 use Rattle.log2.proofs.log256.Tie as tie

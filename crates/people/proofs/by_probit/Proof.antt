@@ -2,7 +2,7 @@
 use mathlib.Core.Path.{ap, _∙_}
 use Prim.Native.Nat.{ℕ}
 use lib.IntN.{pos, _-ℤ_}
-use Rattle.probit.specs.Chance.{chanceBy}
+use Rattle.probit.specs.Rows.{chanceBy}
 use Rattle.people.specs.Death.{fireProbitBy}
 use borrow.Author.Needs.{needs}
 use Rattle.people.proofs.by_probit.Statement.{statement}

@@ -8,7 +8,7 @@ use Rattle.state.specs.declared.Totals.{Totals}
 use Rattle.model.specs.Machine.{targetIn}
 use Rattle.study.specs.View.{view}
 use Rattle.study.proofs.RunLaws.{totals-given}
-use Rattle.printing.specs.Report.{linesOf}
+use Rattle.printing.specs.Lines.{linesOf}
 use borrow.Author.Needs.{needs}
 use Rattle.printing.proofs.report_line.Statement.{statement}
 use Rattle.printing.proofs.report_line.Tie as tie
