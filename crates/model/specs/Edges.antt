@@ -1,18 +1,30 @@
--- Proved. Figures on both sides of 01's bounds, grades, thresholds and tables, worked out from 01 by hand and by a calculator: as one table. Assumes nothing.
+-- Proved. Figures on both sides of 01's bounds, grades, thresholds and tables, worked out from 01 by hand and by a calculator, so that a neighbour of any of
+-- these numbers is refused where definitions and code are changed alike. Each table is one computed test. Assumes nothing.
 use mathlib.Core.Path.{_≡_}
 use mathlib.Core.Bool.{Bool, true, false}
-use mathlib.Core.List.{List, [], _∷_}
-use Prim.Native.Nat.{ℕ}
+use mathlib.Core.List.{List, [], _∷_, _++_}
+use Prim.Native.Nat.{ℕ, _-_, _*_}
 use lib.Dec.{eqb}
 use lib.IntN.{ℤ, pos, negsuc}
+use lib.ListN.{length, replicate}
+use Rattle.numeric.specs.Choice.{pick}
+use Rattle.probit.specs.Table.{probits}
+use Rattle.probit.specs.Chance.{chanceOf}
 use Rattle.terms.specs.Terms.{explosion, seconds}
 use Rattle.terms.specs.declared.Judged.{Judged}
+use Rattle.terms.specs.declared.Target.{Target as Facts}
 use Rattle.equipment.specs.Damage.{blastRowOf, blastProbit, heatProbit, damageOf}
+use Rattle.vulnerability.specs.Effect.{effectOn}
+use Rattle.vulnerability.specs.Domino.{listedBy}
 use Rattle.vulnerability.specs.Figures.{and, same}
+use Rattle.model.specs.Sums.{sumOver, joinOver}
 use Rattle.model.specs.Content.{given, described, inSeconds}
-use Rattle.model.specs.Format.{Record, openingRec, targetRec, leakRec, branchingRec, outcomeRec, effectRec, closingRec}
+use Rattle.model.specs.Format.{Record, openingRec, targetRec, leakRec, branchingRec, outcomeRec, effectRec, closingRec, encode}
 use Rattle.model.specs.Faults.{Context, context, fault}
 use Rattle.model.specs.Report.{gradeOf}
+use Rattle.model.specs.MeaningTheorems.{Near}
+use Rattle.model.specs.Instances.{specimen, specimenBytes}
+use Rattle.model.specs.Calls.{Call, piece, totals, target, domino, Answer, tookPiece, gaveTotals, gaveTarget, gaveDomino, answer, Callable}
 
 pub data Edge : Type 0 where
   -- sum; grade
@@ -24,8 +36,20 @@ pub data Edge : Type 0 where
   heatY : ℕ → ℕ → ℤ → Edge
   -- class, volume, heat, duration; chance of damage in a pool fire, and whether it is judged
   fires : ℕ → ℕ → ℕ → ℕ → ℕ → Bool → Edge
+  -- how many Ys table D.3 has; their sum in hundredths
+  page : ℕ → ℕ → Edge
+  -- Y in hundredths; the chance just below it, and the chance from there
+  rises : ℕ → ℕ → ℕ → Edge
+  -- outcome kind, setting, intensity, duration; chance of death
+  deaths : ℕ → ℕ → ℕ → ℕ → ℕ → Edge
+  -- outcome kind, class, volume, intensity, duration; chance of damage, and whether it is judged
+  harms : ℕ → ℕ → ℕ → ℕ → ℕ → ℕ → Bool → Edge
+  -- chance, leak; whether the equipment is on the domino list
+  listings : ℕ → ℕ → Bool → Edge
   -- what is known before a record, the record; its fault
   faults : Context → Record → ℕ → Edge
+  -- the bytes before a call, the call; the numbers of its answer
+  replies : List ℕ → Call → List ℕ → Edge
 
 abbrev sameZ : ℤ → ℤ → Bool
 sameZ (pos a) (pos b) = eqb a b
@@ -36,13 +60,36 @@ sameZ (negsuc a) (negsuc b) = eqb a b
 abbrev sameJudged : Judged → Judged → Bool
 sameJudged x y = and (eqb (x .chance) (y .chance)) (same (x .judged) (y .judged))
 
+abbrev sameList : List ℕ → List ℕ → Bool
+sameList [] [] = true
+sameList [] (y ∷ ys) = false
+sameList (x ∷ xs) [] = false
+sameList (x ∷ xs) (y ∷ ys) = and (eqb x y) (sameList xs ys)
+
+abbrev facts : ℕ → ℕ → ℕ → Facts
+facts class setting volume = record { class = class; setting = setting; volume = volume }
+
+-- the numbers of an answer, 1 for listed: of a piece its number and place; of the totals these, study, records, leaks, six kinds, unjudged, targets;
+-- of a target these, sum, margin, class, grade, listed; of the domino list these, the count, and the lent list afterwards
+abbrev pub numbersOf : Answer → List ℕ
+numbersOf (tookPiece n p) = n ∷ p ∷ []
+numbersOf (gaveTotals t) = t .number ∷ t .place ∷ t .study ∷ t .records ∷ t .leaks ∷ t .kinds ++ (t .unjudged ∷ t .targets ∷ [])
+numbersOf (gaveTarget r) = r .number ∷ r .place ∷ r .sum ∷ r .margin ∷ r .class ∷ r .grade ∷ pick (r .listed) 1 0 ∷ []
+numbersOf (gaveDomino r l) = r .number ∷ r .place ∷ r .count ∷ l
+
 unfoldable pub stands : Edge → Bool
 stands (grades s g) = eqb (gradeOf s) g
 stands (blastY class pa y) = sameZ (blastProbit (blastRowOf class) pa) y
 stands (blasts class pa c) = eqb (damageOf seconds explosion class 0 pa 0 .chance) c
 stands (heatY q v y) = sameZ (heatProbit q v) y
 stands (fires class v q d c j) = sameJudged (damageOf seconds 1 class v q d) (record { chance = c; judged = j })
+stands (page n total) = and (eqb (length probits) n) (eqb (sumOver (λ y. y) probits) total)
+stands (rises y below from) = and (eqb (chanceOf (pos (y * 10000 - 1))) below) (eqb (chanceOf (pos (y * 10000))) from)
+stands (deaths kind setting i d c) = sameJudged (effectOn seconds (facts 0 setting 0) kind i d) (record { chance = c; judged = true })
+stands (harms kind class v i d c j) = sameJudged (effectOn seconds (facts class 0 v) kind i d) (record { chance = c; judged = j })
+stands (listings c leak b) = same (listedBy c leak) b
 stands (faults x r n) = eqb (fault x r) n
+stands (replies before call l) = sameList (numbersOf (answer before call)) l
 
 unfoldable pub allStand : List Edge → Bool
 allStand [] = true
@@ -61,12 +108,41 @@ abbrev pub beforeEffect : ℕ → ℕ → ℕ → Context
 beforeEffect t kind next = context (record { records = 20; targets = t; scenarios = 1; last = 1; leaks = 1 }) [] 1 kind next
 
 abbrev pub place : ℕ → ℕ → ℕ → ℕ → Record
-place n class setting volume = targetRec n (described (record { class = class; setting = setting; volume = volume }))
+place n class setting volume = targetRec n (described (facts class setting volume))
 
 abbrev pub effect : ℕ → ℕ → ℕ → Record
 effect t i d = effectRec (inSeconds t i d)
 
--- table D.2, explosion: on both sides of the thresholds; fire: the first two are close to where the quotient grows by one, and on both sides of both limits
+-- the bytes of some records after the opening of study 7
+abbrev pub sent : List Record → List ℕ
+sent rs = joinOver encode (openingRec 7 ∷ rs)
+
+-- number, place, and so many noughts
+abbrev pub refusal : ℕ → ℕ → ℕ → List ℕ
+refusal n p noughts = n ∷ p ∷ replicate noughts 0
+
+-- Table D.3: how many Ys 01 prints and what they add up to, which guards each entry; on both sides of the first and the last Y of each step of the chances, and
+-- of the one that 99.5 % and 99.6 % share.
+unfoldable pub chances : List Edge
+chances =
+    page 108 56353 ∷
+    rises 267 0 10000 ∷ rises 295 10000 20000 ∷ rises 733 980000 990000 ∷ rises 737 990000 991000 ∷ rises 741 991000 992000 ∷ rises 758 994000 996000 ∷ rises 809 998000 999000 ∷
+    []
+
+-- "Death": guards the 20 s that count, 35,000 W/m² in each setting, the fires' kinds, inside and outside the limit in each setting, 10,000 and 30,000 Pa,
+-- and the 25,000 indoors
+unfoldable pub fatalities : List Edge
+fatalities =
+    deaths 1 0 12500 19 40000 ∷ deaths 1 0 12500 20 60000 ∷ deaths 1 0 12500 21 60000 ∷ deaths 2 0 12500 20 60000 ∷ deaths 3 0 12500 20 60000 ∷
+    deaths 1 1 34999 20 135800 ∷ deaths 1 1 35000 1 1000000 ∷ deaths 1 2 34999 20 0 ∷ deaths 1 2 35000 1 1000000 ∷ deaths 1 0 0 20 0 ∷ deaths 0 0 35000 20 0 ∷
+    deaths 4 0 0 0 0 ∷ deaths 4 0 1 0 1000000 ∷ deaths 4 1 0 0 0 ∷ deaths 4 1 1 0 1000000 ∷ deaths 4 2 0 0 0 ∷ deaths 4 2 1 0 1000000 ∷
+    deaths 5 0 29999 0 0 ∷ deaths 5 0 30000 0 1000000 ∷ deaths 5 1 29999 0 0 ∷ deaths 5 1 30000 0 1000000 ∷
+    deaths 5 2 9999 0 0 ∷ deaths 5 2 10000 0 25000 ∷ deaths 5 2 29999 0 25000 ∷ deaths 5 2 30000 0 1000000 ∷
+    []
+
+-- Table D.2, explosion: on both sides of the thresholds; fire: the first two are close to where the quotient grows by one, and on both sides of both limits.
+-- Guards A, B and the threshold of classes 3, 4 and 5, every number of the fire's probit, 15,000 W/m², 600 s, which classes are not judged in a fire; and
+-- the domino list's 700,000 and 10^7.
 unfoldable pub damages : List Edge
 damages =
     blastY 3 17000 (pos 3849773) ∷ blasts 3 16999 0 ∷ blasts 3 17000 120000 ∷
@@ -75,9 +151,12 @@ damages =
     heatY 87087 100000 (pos 8529531) ∷ heatY 44613 100000 (pos 7130545) ∷
     fires 1 100000 15000 601 0 true ∷ fires 1 100000 15001 600 0 true ∷ fires 1 100000 15001 601 440000 true ∷
     fires 5 100000 15001 601 440000 true ∷ fires 2 100000 15001 601 0 false ∷ fires 3 100000 15001 601 0 false ∷ fires 4 100000 15001 601 0 false ∷
+    harms 2 1 100000 15001 601 440000 true ∷ harms 3 5 100000 15001 601 440000 true ∷ harms 5 1 0 70000 0 720000 true ∷
+    harms 1 2 0 0 1 0 false ∷ harms 2 3 0 0 1 0 false ∷ harms 3 4 0 0 1 0 false ∷ harms 4 1 0 1 0 0 true ∷ harms 4 2 0 1 0 0 true ∷ harms 4 5 0 1 0 0 true ∷ harms 0 1 0 70000 0 0 true ∷
+    listings 700000 10000000 false ∷ listings 700001 10000000 true ∷ listings 700001 9999999 false ∷
     []
 
--- grades, and the faults of records
+-- Grades, and the faults of records: guards each power of ten, each bound, the numbers 2 to 6 and their order, and the closing count.
 unfoldable pub edges : List Edge
 edges =
     grades 99999 0 ∷ grades 100000 1 ∷ grades 999999 1 ∷ grades 1000000 2 ∷
@@ -114,5 +193,62 @@ edges =
     faults (between 1000000 1 1 1 5) (leakRec 1 0) 5 ∷ faults (between 1000000 1 1 1 5) (closingRec 0 0) 5 ∷ faults (between 1000000 1 1 1 5) (openingRec 7) 2 ∷
     []
 
+-- a study with an outcome of each kind, a place of people indoors and a vessel with a volume
+abbrev pub sixKinds : List ℕ
+sixKinds =
+    sent (place 0 0 2 0 ∷ place 1 1 0 100000 ∷
+    leakRec 1 1 ∷ outcomeRec 0 0 ∷
+    leakRec 2 1000000 ∷ outcomeRec 1 1 ∷ effect 1 15001 601 ∷
+    leakRec 3 3 ∷ outcomeRec 2 0 ∷
+    leakRec 4 4 ∷ outcomeRec 3 0 ∷
+    leakRec 5 5 ∷ outcomeRec 4 0 ∷
+    leakRec 300 6000000 ∷ outcomeRec 5 1 ∷ effect 0 10000 0 ∷
+    closingRec 18 7000013 ∷ [])
+
+-- What calls answer: guards each number from 0 to 10 with its place and the noughts beside it, the level and the rising numbers that one record
+-- leaves to the next, the unjudged count, and what a report shows of the specimen and of a study with all kinds.
+unfoldable pub calls : List Edge
+calls =
+    -- 8: no bytes, and a record cut short
+    replies [] (piece []) (0 ∷ 0 ∷ []) ∷ replies [] totals (refusal 8 0 11) ∷ replies [] (target 0) (refusal 8 0 5) ∷
+    replies [] (domino (5 ∷ [])) (8 ∷ 0 ∷ 0 ∷ 5 ∷ []) ∷
+    replies (1 ∷ []) (piece (0 ∷ 0 ∷ 0 ∷ [])) (0 ∷ 4 ∷ []) ∷ replies (1 ∷ 0 ∷ 0 ∷ 0 ∷ []) totals (refusal 8 4 11) ∷
+    -- 1 at the kind byte, and kept
+    replies (sent []) (piece (0 ∷ [])) (1 ∷ 5 ∷ []) ∷ replies (sent []) (piece (8 ∷ [])) (1 ∷ 5 ∷ []) ∷ replies (sent [] ++ (8 ∷ [])) (piece []) (1 ∷ 5 ∷ []) ∷
+    replies (sent [] ++ (8 ∷ [])) totals (refusal 1 5 11) ∷ replies (sent [] ++ (8 ∷ [])) (target 0) (refusal 1 5 5) ∷
+    replies (sent [] ++ (8 ∷ [])) (domino []) (refusal 1 5 1) ∷
+    -- 2 to 6 at the record's first byte: a second opening; 9 branchings, one upon the other; frequency 0; a target named twice, a scenario's number twice; count
+    replies (sent []) (piece (1 ∷ 0 ∷ 0 ∷ 0 ∷ 7 ∷ [])) (2 ∷ 5 ∷ []) ∷
+    replies [] (piece (sent (leakRec 1 1 ∷ replicate 8 (branchingRec (given 0))))) (0 ∷ 58 ∷ []) ∷
+    replies [] (piece (sent (leakRec 1 1 ∷ replicate 9 (branchingRec (given 0))))) (5 ∷ 58 ∷ []) ∷
+    replies [] (piece (sent (leakRec 1 0 ∷ []))) (3 ∷ 5 ∷ []) ∷
+    replies [] (piece (sent (place 0 0 0 0 ∷ leakRec 1 1 ∷ outcomeRec 4 2 ∷ effect 0 1 0 ∷ effect 0 1 0 ∷ []))) (4 ∷ 40 ∷ []) ∷
+    replies [] (piece (sent (leakRec 1 1 ∷ outcomeRec 0 0 ∷ leakRec 1 1 ∷ []))) (4 ∷ 22 ∷ []) ∷
+    replies [] (piece (sent (closingRec 3 0 ∷ []))) (6 ∷ 5 ∷ []) ∷
+    -- opening and closing alone: 0, 9 and 7
+    replies [] (piece (sent (closingRec 2 0 ∷ []))) (0 ∷ 18 ∷ []) ∷ replies (sent (closingRec 2 0 ∷ [])) totals (0 ∷ 18 ∷ 7 ∷ 2 ∷ replicate 9 0) ∷
+    replies (sent (closingRec 2 0 ∷ [])) (target 0) (refusal 9 18 5) ∷ replies (sent (closingRec 2 0 ∷ [])) (domino []) (refusal 0 18 1) ∷
+    replies (sent (closingRec 2 0 ∷ [])) (piece []) (0 ∷ 18 ∷ []) ∷ replies (sent (closingRec 2 0 ∷ [])) (piece (0 ∷ [])) (7 ∷ 18 ∷ []) ∷
+    replies [] (piece (sent (closingRec 2 0 ∷ []) ++ (0 ∷ []))) (7 ∷ 18 ∷ []) ∷
+    -- one effect that is not judged; all kinds
+    replies (sent (place 0 2 0 0 ∷ leakRec 1 1 ∷ outcomeRec 1 1 ∷ effect 0 0 1 ∷ closingRec 6 1 ∷ [])) totals
+    (0 ∷ 53 ∷ 7 ∷ 6 ∷ 1 ∷ 0 ∷ 1 ∷ 0 ∷ 0 ∷ 0 ∷ 0 ∷ 1 ∷ 1 ∷ []) ∷
+    replies sixKinds totals (0 ∷ 156 ∷ 7 ∷ 18 ∷ 7000013 ∷ 1 ∷ 1000000 ∷ 3 ∷ 4 ∷ 5 ∷ 6000000 ∷ 0 ∷ 2 ∷ []) ∷
+    replies sixKinds (target 0) (0 ∷ 156 ∷ 150000 ∷ 1 ∷ 0 ∷ 1 ∷ 0 ∷ []) ∷ replies sixKinds (target 1) (0 ∷ 156 ∷ 440000 ∷ 1 ∷ 1 ∷ 0 ∷ 0 ∷ []) ∷
+    -- the specimen: 0, 9 and 10
+    replies specimenBytes totals (0 ∷ 98 ∷ 7 ∷ 13 ∷ 100000000 ∷ 67500000 ∷ 0 ∷ 10000000 ∷ 0 ∷ 0 ∷ 22500000 ∷ 0 ∷ 2 ∷ []) ∷
+    replies specimenBytes (target 0) (0 ∷ 98 ∷ 600000 ∷ 5 ∷ 0 ∷ 1 ∷ 0 ∷ []) ∷ replies specimenBytes (target 1) (0 ∷ 98 ∷ 16200000 ∷ 3 ∷ 1 ∷ 0 ∷ 1 ∷ []) ∷
+    replies specimenBytes (target 2) (refusal 9 98 5) ∷
+    replies specimenBytes (domino []) (refusal 10 98 1) ∷ replies specimenBytes (domino (65535 ∷ 65535 ∷ [])) (0 ∷ 98 ∷ 1 ∷ 1 ∷ 65535 ∷ []) ∷
+    []
+
 abbrev pub EdgesStand : Type 0
-EdgesStand = (allStand damages ≡ true) × (allStand edges ≡ true)
+EdgesStand = (allStand chances ≡ true) × (allStand fatalities ≡ true) × (allStand damages ≡ true) × (allStand edges ≡ true) × (allStand calls ≡ true)
+
+-- A margin of 1 is too little one unit off: the specimen's exact sum at target 0 is 600,000 units, so 10^54 parts and no other number make a unit of it.
+abbrev pub MarginIsStrict : Type 0
+MarginIsStrict = (Near specimen 0 600001 1 → ⊥) × (Near specimen 0 599999 1 → ⊥)
+
+-- A byte is a number to 255: a caller can make a piece that holds 255, and none that holds 256.
+abbrev pub BytesTo255 : Type 0
+BytesTo255 = Callable (piece (255 ∷ [])) × (Callable (piece (256 ∷ [])) → ⊥)
