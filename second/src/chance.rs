@@ -2,6 +2,7 @@
 
 use crate::logarithm::log;
 use crate::probit;
+use crate::volume;
 
 /// A chance of one.
 pub const CERTAIN: u32 = 1_000_000;
@@ -35,8 +36,7 @@ const DEADLY_BLAST: u32 = 30_000;
 /// Overpressure from which people indoors are at risk, and their chance.
 const INDOOR_BLAST: u32 = 10_000;
 const INDOOR_BLAST_CHANCE: u32 = 25_000;
-/// Equipment fails by fire above this heat and for longer than this time.
-const DAMAGING_HEAT: u32 = 15_000;
+/// Equipment fails by fire for longer than this time.
 const DAMAGING_TIME: u16 = 600;
 
 /// Probit of death by fire: heat of at least 1 W/m², duration of at least 1 s.
@@ -134,36 +134,63 @@ pub fn blast_damage(class: u8, overpressure: u32) -> u32 {
     blast_damage_probit(class, overpressure).map_or(0, probit::chance)
 }
 
-/// What a volume adds to the probit of damage by fire.
-#[inline]
-pub fn volume_term(volume: u32) -> u32 {
-    (4_925_949 * u64::from(volume) / 100_000) as u32
+/// A row of table D.2 for heat. Damage needs more than the threshold.
+struct Fire {
+    a: i64,
+    b: u64,
+    threshold: u32,
 }
 
-/// Probit of damage by fire for classes 1 and 5.
-#[inline]
-pub fn fire_damage_probit(heat: u32, volume_term: u32) -> i64 {
-    let rise = 2_083_416 * u64::from(log(heat)) * LN_2 / 256_000_000;
-    -20_094_547 + rise as i64 + i64::from(volume_term)
-}
+const ATMOSPHERIC_OR_PIPE_FIRE: Fire = Fire {
+    a: -20_094_547,
+    b: 2_083_416,
+    threshold: 15_000,
+};
 
-/// Chance of damage by fire for classes 1 and 5.
+const PRESSURISED_FIRE: Fire = Fire {
+    a: 457_583,
+    b: 1_749_109,
+    threshold: 40_000,
+};
+
+/// The row of a class whose fires are judged.
 #[inline]
-pub fn fire_damage(volume_term: u32, heat: u32, duration: u16) -> u32 {
-    if heat > DAMAGING_HEAT && duration > DAMAGING_TIME {
-        probit::chance(fire_damage_probit(heat, volume_term))
-    } else {
-        0
+const fn fire_row(class: u8) -> Fire {
+    match class {
+        class::PRESSURISED_VESSEL => PRESSURISED_FIRE,
+        _ => ATMOSPHERIC_OR_PIPE_FIRE,
     }
 }
 
-/// Whether a fire on this class is left unjudged.
+/// What a target's volume adds to the probit of damage by fire; none where
+/// every fire on it is left unjudged. No rule uses that of places of people.
+pub fn volume_term(class: u8, volume: u32) -> Option<i32> {
+    match class {
+        class::PRESSURISED_VESSEL => {
+            let root = u64::from(volume::root(volume)?);
+            Some(-((16_336_715 * root / 1_000) as i32))
+        }
+        class::TOWER | class::PUMP => None,
+        _ => Some((4_925_949 * u64::from(volume) / 100_000) as i32),
+    }
+}
+
+/// Probit of damage by fire for classes 1, 2 and 5.
 #[inline]
-pub fn unjudged_in_fire(class: u8) -> bool {
-    matches!(
-        class,
-        class::PRESSURISED_VESSEL | class::TOWER | class::PUMP
-    )
+pub fn fire_damage_probit(class: u8, heat: u32, volume_term: i32) -> i64 {
+    let row = fire_row(class);
+    let rise = row.b * u64::from(log(heat)) * LN_2 / 256_000_000;
+    row.a + rise as i64 + i64::from(volume_term)
+}
+
+/// Chance of damage by fire for classes 1, 2 and 5.
+#[inline]
+pub fn fire_damage(class: u8, volume_term: i32, heat: u32, duration: u16) -> u32 {
+    if heat > fire_row(class).threshold && duration > DAMAGING_TIME {
+        probit::chance(fire_damage_probit(class, heat, volume_term))
+    } else {
+        0
+    }
 }
 
 #[cfg(test)]
@@ -226,21 +253,57 @@ mod tests {
 
     #[test]
     fn fire_and_equipment() {
-        assert_eq!(fire_damage(volume_term(100_000), 15_000, u16::MAX), 0);
-        assert_eq!(fire_damage(0, u32::MAX, 600), 0);
-        assert_eq!(fire_damage(0, u32::MAX, 601), 999_000);
-        assert_eq!(volume_term(100_000), 4_925_949);
-        assert_eq!(volume_term(1), 49);
-        // 15,001 W/m²: L is 3,551.
-        assert_eq!(log(15_001), 3_551);
-        assert_eq!(fire_damage_probit(15_001, 0), -63_113);
-        assert_eq!(fire_damage(volume_term(100_000), 15_001, 601), 440_000);
+        for class in [1, 5] {
+            let term = |volume| volume_term(class, volume).unwrap();
+            assert_eq!([term(0), term(1), term(100_000)], [0, 49, 4_925_949]);
+            assert_eq!(fire_damage(class, term(100_000), 15_000, u16::MAX), 0);
+            assert_eq!(fire_damage(class, 0, u32::MAX, 600), 0);
+            assert_eq!(fire_damage(class, 0, u32::MAX, 601), 999_000);
+            // 15,001 W/m²: L is 3,551.
+            assert_eq!(log(15_001), 3_551);
+            assert_eq!(fire_damage_probit(class, 15_001, 0), -63_113);
+            assert_eq!(fire_damage(class, term(100_000), 15_001, 601), 440_000);
+        }
     }
 
     #[test]
-    fn flash_fire_and_classes() {
+    fn fire_and_pressurised_vessels() {
+        let term = |volume| volume_term(2, volume).unwrap();
+        assert_eq!([term(1), term(2)], [-16_336_715, -16_696_122]);
+        assert_eq!([term(9_823), term(9_824)], [-21_907_534, -21_923_871]);
+        assert_eq!(term(10_000), -21_923_871);
+        // 40,001 W/m²: L is 3,913, and no volume has a chance. The threshold is
+        // seen only without what a volume takes off.
+        assert_eq!(log(40_001), 3_913);
+        assert_eq!(fire_damage_probit(2, 40_001, term(1)), 2_652_433);
+        assert_eq!(fire_damage(2, term(1), 40_001, u16::MAX), 0);
+        assert_eq!(fire_damage(2, 0, 40_000, u16::MAX), 0);
+        assert_eq!(fire_damage(2, 0, u32::MAX, 600), 0);
+        assert_eq!(fire_damage(2, 0, 40_001, 601), 999_000);
+        assert_eq!(fire_damage_probit(2, 60_000, term(1)), 3_362_817);
+        assert_eq!(fire_damage(2, term(1), 60_000, 601), 50_000);
+        assert_eq!(fire_damage_probit(2, u32::MAX, term(10_000)), 17_325_445);
+        assert_eq!(fire_damage(2, term(10_000), u32::MAX, 601), 999_000);
+        // Each bracket is rounded down by itself: 331 m³ has K 1204, 1,768,269
+        // W/m² has L 5,313, and rounding the difference once gives 5,949,999.
+        assert_eq!(fire_damage_probit(2, 1_768_269, term(331)), 5_950_000);
+        assert_eq!(fire_damage(2, term(331), 1_768_269, 601), 830_000);
+    }
+
+    #[test]
+    fn fires_left_unjudged() {
+        for volume in [0, 1, 10_000, 10_001, 100_000] {
+            let unjudged = (0..6).filter(|&class| volume_term(class, volume).is_none());
+            let unjudged: Vec<u8> = unjudged.collect();
+            match volume {
+                1..=10_000 => assert_eq!(unjudged, [3, 4]),
+                _ => assert_eq!(unjudged, [2, 3, 4]),
+            }
+        }
+    }
+
+    #[test]
+    fn flash_fire() {
         assert_eq!([flash_death(0), flash_death(1)], [0, CERTAIN]);
-        let unjudged = (0..6).filter(|&class| unjudged_in_fire(class));
-        assert_eq!(unjudged.collect::<Vec<_>>(), [2, 3, 4]);
     }
 }

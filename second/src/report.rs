@@ -31,7 +31,8 @@ pub struct Totals {
     pub leaks: u64,
     /// Frequency by outcome kind.
     pub kinds: [u64; 6],
-    /// Fires on classes 2 to 4.
+    /// Effects of fires on classes 3 and 4, and on class 2 where its volume is
+    /// 0 or above 10,000.
     pub unjudged: u32,
 }
 

@@ -54,9 +54,10 @@ impl Stage {
 struct Target {
     sum: u64,
     margin: u32,
-    volume_term: u32,
+    volume_term: i32,
     class: u8,
     setting: u8,
+    unjudged_in_fire: bool,
     listed: bool,
 }
 
@@ -67,6 +68,7 @@ impl Target {
         volume_term: 0,
         class: 0,
         setting: 0,
+        unjudged_in_fire: false,
         listed: false,
     };
 }
@@ -350,10 +352,12 @@ impl Study {
         if u16::from_be_bytes([n1, n0]) != self.target_count {
             return Err(number::NUMBERING);
         }
+        let volume_term = chance::volume_term(class, volume);
         self.targets[usize::from(self.target_count)] = Target {
-            volume_term: chance::volume_term(volume),
+            volume_term: volume_term.unwrap_or(0),
             class,
             setting,
+            unjudged_in_fire: volume_term.is_none(),
             ..Target::NONE
         };
         self.target_count += 1;
@@ -474,7 +478,7 @@ impl Study {
                 break;
             };
             let chance = effect_chance(FORM, target, intensity, duration);
-            if FORM == form::FIRE && chance::unjudged_in_fire(target.class) {
+            if FORM == form::FIRE && target.unjudged_in_fire {
                 self.unjudged += 1;
             }
             target.sum += share(self.frequency, chance);
@@ -648,9 +652,8 @@ fn effect_chance(form: u8, target: &Target, intensity: u32, duration: u16) -> u3
     use chance::class;
     match (form, target.class) {
         (form::FIRE, class::PEOPLE) => chance::fire_death(target.setting, intensity, duration),
-        (form::FIRE, class::ATMOSPHERIC_VESSEL | class::PIPE) => {
-            chance::fire_damage(target.volume_term, intensity, duration)
-        }
+        (form::FIRE, _) if target.unjudged_in_fire => 0,
+        (form::FIRE, class) => chance::fire_damage(class, target.volume_term, intensity, duration),
         (form::FLASH, class::PEOPLE) => chance::flash_death(intensity),
         (form::BLAST, class::PEOPLE) => chance::blast_death(target.setting, intensity),
         (form::BLAST, class) => chance::blast_damage(class, intensity),

@@ -1,4 +1,5 @@
-//! Figures and reports by the rules of document 01.
+//! Figures and reports by the rules of document 01 and request P1 of document
+//! 02.
 
 mod common;
 
@@ -115,6 +116,75 @@ fn chances_of_damage() {
     }
 }
 
+/// The chance of damage to a pressurised vessel by a fire longer than 600 s.
+fn sphere(volume: u32, heat: u32) -> u64 {
+    chance(2, 0, volume, 1, (heat, 601))
+}
+
+#[test]
+fn pressurised_vessels_in_a_fire() {
+    // K is 1000, 1022, 1158, 1341, 1342 and 1342.
+    assert_eq!([sphere(1, 60_000), sphere(2, 60_000)], [50_000, 20_000]);
+    assert_eq!(sphere(100, 500_000), 300_000);
+    assert_eq!(sphere(9_823, 4_000_000), 550_000);
+    assert_eq!(sphere(9_824, 4_000_000), 540_000);
+    assert_eq!(sphere(10_000, 4_000_000), 540_000);
+    // The least heats with 1 %: L is 3917 and 5097.
+    assert_eq!([sphere(1, 40_363), sphere(1, 40_364)], [0, 10_000]);
+    let largest = [sphere(10_000, 985_267), sphere(10_000, 985_268)];
+    assert_eq!(largest, [0, 10_000]);
+    for volume in [1, 10_000] {
+        assert_eq!(sphere(volume, u32::MAX), 999_000);
+    }
+    // Y is 5,950,000 and 4,800,000; one less if the difference of the brackets
+    // is rounded instead of each.
+    assert_eq!(
+        [sphere(331, 1_768_268), sphere(331, 1_768_269)],
+        [820_000, 830_000]
+    );
+    assert_eq!(
+        [sphere(1_272, 1_503_122), sphere(1_272, 1_503_123)],
+        [410_000, 420_000]
+    );
+    // At most 40,000 W/m² and at most 600 s.
+    for kind in 1..=3 {
+        for (heat, duration) in [(40_000, 65_535), (40_001, 65_535), (u32::MAX, 600)] {
+            assert_eq!(chance(2, 0, 1, kind, (heat, duration)), 0);
+        }
+        assert_eq!(chance(2, 0, 1, kind, (u32::MAX, 601)), 999_000);
+    }
+    assert_eq!(chance(2, 0, 1, 4, (1, 0)), 0);
+}
+
+#[test]
+fn pressurised_vessels_left_unjudged() {
+    let volumes = [0, 1, 500, 10_000, 10_001, 100_000];
+    // Weak and short, short, weak, above both lines.
+    for effect in [(0, 1), (u32::MAX, 600), (40_000, 601), (u32::MAX, 601)] {
+        let mut builder = Builder::new(1);
+        for (number, volume) in volumes.into_iter().enumerate() {
+            builder = builder.target(number as u16, 2, 0, volume);
+        }
+        builder = builder.leak(1, 10_000_000).outcome(2, 6);
+        for target in 0..6 {
+            builder = builder.effect(target, effect.0, effect.1);
+        }
+        let study = closed(&builder.close());
+        assert_eq!(study.totals().figures.unwrap().unjudged, 3);
+        let judged = if effect == (u32::MAX, 601) {
+            9_990_000
+        } else {
+            0
+        };
+        let sums = [0, 1, 2, 3, 4, 5].map(|target| sum(&study, target));
+        assert_eq!(sums, [0, judged, judged, judged, 0, 0]);
+        let listed = if judged > 0 { vec![1, 2, 3] } else { vec![] };
+        let mut lent = [65_535; 6];
+        assert_eq!(study.domino(&mut lent).figures, Some(listed.len() as u16));
+        assert_eq!(lent[..listed.len()], listed);
+    }
+}
+
 #[test]
 fn fires_left_unjudged() {
     let mut builder = Builder::new(1);
@@ -161,18 +231,24 @@ fn grades() {
 
 #[test]
 fn domino_leak_and_chance_on_both_sides() {
-    for (frequency, pressure, listed) in [
-        (10_000_000, 70_000, true),
-        (9_999_999, 70_000, false),
-        (10_000_000_000_000, 67_000, false),
+    // An explosion on an atmospheric vessel, and a fire on a pressurised one of
+    // 1 m³: 700,000 is not listed, and the next chance is.
+    let most = 10_000_000_000_000;
+    for (frequency, class, kind, effect, listed) in [
+        (10_000_000, 1, 5, (70_000, 0), true),
+        (9_999_999, 1, 5, (70_000, 0), false),
+        (most, 1, 5, (67_000, 0), false),
+        (10_000_000, 2, 3, (209_383, 601), true),
+        (9_999_999, 2, 3, (209_383, 601), false),
+        (most, 2, 3, (209_382, 601), false),
     ] {
         // The outcome is nearly never reached: the leak decides.
         let builder = Builder::new(1)
-            .target(0, 1, 0, 0)
+            .target(0, class, 0, 1)
             .leak(1, frequency)
             .branching(0)
-            .outcome(5, 1)
-            .effect(0, pressure, 0)
+            .outcome(kind, 1)
+            .effect(0, effect.0, effect.1)
             .outcome(0, 0)
             .close();
         let study = closed(&builder);

@@ -34,15 +34,19 @@ fn any_bytes_give_themselves_back() {
 
 #[test]
 fn the_examples() {
-    for name in ["specimen", "resin-works"] {
+    let bytes_of = |name: &str| {
         let file = repository().join("examples").join(name);
         let text = fs::read_to_string(file.with_extension("txt")).unwrap();
         let bytes = fs::read(file.with_extension("study")).unwrap();
         assert_eq!(to_bytes(&text), Ok(bytes.clone()));
-        let vectors = vectors();
+        bytes
+    };
+    let vectors = vectors();
+    for name in ["specimen", "resin-works"] {
         let vector = vectors.iter().find(|vector| vector.name == name).unwrap();
-        assert_eq!(bytes, vector.study);
+        assert_eq!(bytes_of(name), vector.study);
     }
+    assert_eq!(bytes_of("tank-farm").len(), 125);
 }
 
 #[test]

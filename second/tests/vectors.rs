@@ -6,8 +6,8 @@ use common::vectors;
 use desk::{report_text, report_text_of_pieces};
 
 #[test]
-fn there_are_49() {
-    assert!(vectors().len() >= 49);
+fn there_are_52() {
+    assert!(vectors().len() >= 52);
 }
 
 #[test]

@@ -1,9 +1,11 @@
-//! A straightforward reader of document 01's studies, to time the others by:
-//! the rules as they are written, nothing prepared for speed.
+//! A straightforward reader of document 01's studies, with request P1 of
+//! document 02, to time the others by: the rules as they are written, nothing
+//! prepared for speed.
 
 use desk::chance::{class, setting};
 use desk::logarithm::THRESHOLDS;
 use desk::record::{self, number, outcome};
+use desk::volume::LEAST;
 use desk::{Answer, Report, Standing, TargetFigures, Totals};
 
 const MAX_TARGETS: usize = 256;
@@ -22,6 +24,9 @@ const LN_2: i64 = 693_147;
 
 /// Steps of one octave of the logarithm.
 static STEPS: [u32; 256] = THRESHOLDS;
+
+/// The least volume of each K from 1000 to 1342.
+static VOLUMES: [u16; 343] = LEAST;
 
 /// Table D.3 in hundredths: 1 % to 99 % by 1 %, then 99.1 % to 99.9 % by 0.1 %.
 #[rustfmt::skip]
@@ -347,14 +352,8 @@ impl Reader {
         };
         target.sum += share(outcome.tree.frequency, chance);
         target.margin += outcome.tree.above + 1;
-        if chance > 700_000 && self.leak >= 10_000_000 {
-            target.listed = true;
-        }
-        let unjudged = matches!(
-            target.class,
-            class::PRESSURISED_VESSEL | class::TOWER | class::PUMP
-        );
-        if unjudged && is_fire(outcome.kind) {
+        target.listed |= chance > 700_000 && self.leak >= 10_000_000;
+        if is_fire(outcome.kind) && unjudged_in_fire(target) {
             self.unjudged += 1;
         }
         outcome.next_target = number + 1;
@@ -459,12 +458,27 @@ fn is_fire(kind: u8) -> bool {
     (outcome::POOL_FIRE..=outcome::FIREBALL).contains(&kind)
 }
 
+/// Whether every fire on this target is left unjudged.
+fn unjudged_in_fire(target: &Target) -> bool {
+    match target.class {
+        class::PRESSURISED_VESSEL => target.volume == 0 || target.volume > 10_000,
+        class::TOWER | class::PUMP => true,
+        _ => false,
+    }
+}
+
 /// L(n) for n from 1 on.
 fn log(n: u32) -> i64 {
     let shift = n.leading_zeros();
     let mantissa = n << shift;
     let reached = STEPS.partition_point(|&least| least <= mantissa);
     i64::from(31 - shift) * 256 + reached as i64 - 1
+}
+
+/// K of a volume from 1 to 10,000.
+fn root(volume: u32) -> i64 {
+    let reached = VOLUMES.partition_point(|&least| u32::from(least) <= volume);
+    999 + reached as i64
 }
 
 /// The chance of a probit.
@@ -511,25 +525,44 @@ fn death(setting: u8, kind: u8, intensity: u32, duration: u16) -> u32 {
 
 /// Chance of damage to equipment.
 fn damage(target: &Target, kind: u8, intensity: u32, duration: u16) -> u32 {
-    if kind == outcome::EXPLOSION {
-        let (a, b, threshold) = match target.class {
-            class::ATMOSPHERIC_VESSEL => (-9_360_000, 134, 5_170),
-            class::TOWER => (-12_220_000, 165, 17_000),
-            class::PUMP => (-12_420_000, 164, 18_700),
-            _ => (-14_440_000, 182, 30_000),
-        };
-        if intensity < threshold {
+    match kind {
+        outcome::FLASH_FIRE => 0,
+        outcome::EXPLOSION => blast_damage(target, intensity),
+        _ => fire_damage(target, intensity, duration),
+    }
+}
+
+fn blast_damage(target: &Target, overpressure: u32) -> u32 {
+    let (a, b, threshold) = match target.class {
+        class::ATMOSPHERIC_VESSEL => (-9_360_000, 134, 5_170),
+        class::TOWER => (-12_220_000, 165, 17_000),
+        class::PUMP => (-12_420_000, 164, 18_700),
+        _ => (-14_440_000, 182, 30_000),
+    };
+    if overpressure < threshold {
+        return 0;
+    }
+    chance(a + b * log(overpressure) * LN_2 / 25_600)
+}
+
+fn fire_damage(target: &Target, heat: u32, duration: u16) -> u32 {
+    if unjudged_in_fire(target) || duration <= 600 {
+        return 0;
+    }
+    if target.class == class::PRESSURISED_VESSEL {
+        if heat <= 40_000 {
             return 0;
         }
-        return chance(a + b * log(intensity) * LN_2 / 25_600);
+        let rise = 1_749_109 * log(heat) * LN_2 / 256_000_000;
+        let volume = 16_336_715 * root(target.volume) / 1_000;
+        return chance(457_583 + rise - volume);
     }
-    let judged = matches!(target.class, class::ATMOSPHERIC_VESSEL | class::PIPE);
-    if is_fire(kind) && judged && intensity > 15_000 && duration > 600 {
-        let heat = 2_083_416 * log(intensity) * LN_2 / 256_000_000;
-        let volume = 4_925_949 * i64::from(target.volume) / 100_000;
-        return chance(-20_094_547 + heat + volume);
+    if heat <= 15_000 {
+        return 0;
     }
-    0
+    let rise = 2_083_416 * log(heat) * LN_2 / 256_000_000;
+    let volume = 4_925_949 * i64::from(target.volume) / 100_000;
+    chance(-20_094_547 + rise + volume)
 }
 
 #[cfg(test)]
@@ -647,24 +680,33 @@ mod tests {
         }
     }
 
+    /// Volumes of class 2 at both ends of those judged and at steps of K.
+    const SPHERES: [u32; 10] = [0, 1, 2, 3, 330, 331, 9_823, 9_824, 10_000, 10_001];
+
     #[test]
     fn effects_of_every_kind_on_every_class() {
         let sums = |kind: u8, intensity: u32, duration: u16| {
             let mut bytes = fires(6, 0);
             bytes.extend([record::TARGET, 0, 6, 0, 1, 0, 0, 0, 0]);
             bytes.extend([record::TARGET, 0, 7, 0, 2, 0, 0, 0, 0]);
+            for (number, volume) in (8..).zip(SPHERES) {
+                bytes.extend([record::TARGET, 0, number, 2, 0]);
+                bytes.extend(volume.to_be_bytes());
+            }
             bytes.extend([record::LEAK, 0, 0, 0, 9, 0, 0, 0, 1, 0, 0, 0, 0]);
-            bytes.extend([record::OUTCOME, kind, 0, 8]);
-            for target in 0..8 {
+            bytes.extend([record::OUTCOME, kind, 0, 18]);
+            for target in 0..18 {
                 bytes.extend([record::EFFECT, 0, target]);
                 bytes.extend(intensity.to_be_bytes());
                 bytes.extend(duration.to_be_bytes());
             }
-            bytes.extend([record::CLOSING, 0, 0, 0, 20, 0, 0, 0, 1, 0, 0, 0, 0]);
+            bytes.extend([record::CLOSING, 0, 0, 0, 40, 0, 0, 0, 1, 0, 0, 0, 0]);
             assert_eq!(same(&bytes, 65_536), number::TAKEN);
         };
-        let steps = (0..60_000).step_by(13).chain([u32::MAX - 1, u32::MAX]);
-        for intensity in steps.chain((60_000..2_000_000).step_by(997)) {
+        let steps = (0..60_000).step_by(13);
+        let steps = steps.chain((60_000..2_000_000).step_by(997));
+        let steps = steps.chain((2_000_000..24_000_000).step_by(49_999));
+        for intensity in steps.chain([40_000, 1_768_269, u32::MAX - 1, u32::MAX]) {
             sums(outcome::EXPLOSION, intensity, 0);
             for duration in [1, 19, 20, 21, 600, 601, 65_535] {
                 sums(outcome::JET_FIRE, intensity, duration);

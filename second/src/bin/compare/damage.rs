@@ -104,7 +104,7 @@ fn outcome_before(records: &[Record], place: usize) -> u8 {
     outcome.map_or(outcome::NO_EFFECT, |record| record[1])
 }
 
-/// A field just outside its bounds, or far outside.
+/// A field just outside its bounds, or far outside, or at a limit.
 fn field_near(random: &mut Random, records: &mut [Record], place: usize) {
     let kinds = [2, 3, 4, 5, 6];
     let kind = random.pick(&kinds);
@@ -118,7 +118,10 @@ fn field_near(random: &mut Random, records: &mut [Record], place: usize) {
             0 => bytes[3] = random.pick(&[6, 7, 255]),
             1 => bytes[4] = random.pick(&[1, 2, 3, 4, 255]),
             2 => set(bytes, 5, 4, random.pick(&[100_001, 100_002, 1 << 31])),
-            _ => set(bytes, 5, 4, random.between(99_999, 100_001)),
+            _ => {
+                let limits = [0, 10_000, 10_001, 99_999, 100_000, 100_001];
+                set(bytes, 5, 4, random.pick(&limits));
+            }
         },
         record::LEAK => {
             let most = 10_000_000_000_000;
@@ -170,9 +173,7 @@ fn number_near(random: &mut Random, records: &mut [Record], place: usize) {
     } else {
         (2, 16)
     };
-    let old = bytes[1..=width]
-        .iter()
-        .fold(0u64, |number, &byte| number << 8 | u64::from(byte));
+    let old = studies::number(bytes, 1, width);
     let new = match random.below(6) {
         0 => old.wrapping_sub(1),
         1 => old + 1,

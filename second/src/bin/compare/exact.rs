@@ -5,7 +5,7 @@
 //! frequency times 10^48, an effect adds weight times chance.
 
 use crate::random::Random;
-use crate::studies::{self, Record};
+use crate::studies::{self, Record, number};
 use desk::{Study, chance, record};
 
 const MILLION: u64 = 1_000_000;
@@ -80,11 +80,6 @@ impl Large {
     }
 }
 
-fn number(record: &[u8], from: usize, width: usize) -> u64 {
-    let bytes = &record[from..from + width];
-    bytes.iter().fold(0, |n, &byte| n << 8 | u64::from(byte))
-}
-
 /// The exact sums, and the margins, of a valid study's targets.
 struct Exact<'a> {
     rest: std::slice::Iter<'a, Record>,
@@ -134,12 +129,14 @@ impl Exact<'_> {
 
 fn effect_chance(kind: u8, target: &[u8], effect: &[u8]) -> u64 {
     let (class, setting) = (target[3], target[4]);
-    let volume = chance::volume_term(number(target, 5, 4) as u32);
+    let volume = number(target, 5, 4) as u32;
     let intensity = number(effect, 3, 4) as u32;
     let duration = number(effect, 7, 2) as u16;
     u64::from(match (kind, class) {
         (1..=3, 0) => chance::fire_death(setting, intensity, duration),
-        (1..=3, 1 | 5) => chance::fire_damage(volume, intensity, duration),
+        (1..=3, _) => chance::volume_term(class, volume).map_or(0, |term| {
+            chance::fire_damage(class, term, intensity, duration)
+        }),
         (4, 0) => chance::flash_death(intensity),
         (5, 0) => chance::blast_death(setting, intensity),
         (5, _) => chance::blast_damage(class, intensity),

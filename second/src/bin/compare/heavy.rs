@@ -89,10 +89,15 @@ fn facts(number: u16) -> Facts {
         0 => (number / 6 % 3) as u8,
         _ => 0,
     };
+    // Of class 2 from 0 to 10,000, and two above.
+    let volume = match class {
+        2 => u32::from(number / 6) * 250,
+        _ => u32::from(number) * 300,
+    };
     Facts {
         class,
         setting,
-        volume: u32::from(number) * 300,
+        volume,
         edge_heat: 0,
     }
 }

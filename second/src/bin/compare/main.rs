@@ -7,6 +7,7 @@ mod exact;
 mod heavy;
 mod lists;
 mod random;
+mod spheres;
 mod studies;
 
 use std::io::{ErrorKind, Read, Write};
@@ -75,6 +76,10 @@ struct Tally {
     numbers: [u64; 11],
     /// Lists in which each number was answered.
     lists: [u64; 11],
+    /// Fires on pressurised vessels by what the rule says, in closed studies of
+    /// lists that agreed, and the lists that have them.
+    spheres: [u64; 4],
+    sphere_lists: [u64; 4],
     bad_calls: u64,
     calls: u64,
     first: Option<Difference>,
@@ -144,6 +149,14 @@ fn count_answers(text: &str, tally: &mut Tally) {
     }
 }
 
+/// Counts the fires on pressurised vessels of a list.
+fn count_spheres(counts: [u64; 4], tally: &mut Tally) {
+    for (i, count) in counts.into_iter().enumerate() {
+        tally.spheres[i] += count;
+        tally.sphere_lists[i] += u64::from(count > 0);
+    }
+}
+
 /// Runs one list through both and notes the result.
 fn compare(
     options: &Options,
@@ -154,10 +167,12 @@ fn compare(
 ) -> Result<(), String> {
     let second = desk::replay::replay(&calls);
     let first = run(&options.replay, &calls)?;
+    let spheres = spheres::count(&calls);
     let mut tally = tally.lock().map_err(|_| "a thread failed")?;
     if first == second {
         tally.agreed += 1;
         count_answers(&second, &mut tally);
+        count_spheres(spheres, &mut tally);
         return Ok(());
     }
     tally.differed += 1;
@@ -230,14 +245,22 @@ fn summary(options: &Options, tally: &Tally, seconds: f64) -> bool {
         let lists = tally.lists[number];
         println!("answer {number:2}: {count:9} in {lists:7} lists  {words}");
     }
+    for (i, words) in spheres::WORDS.iter().enumerate() {
+        let (count, lists) = (tally.spheres[i], tally.sphere_lists[i]);
+        println!("class 2 in a fire: {count:9} in {lists:7} lists  {words}");
+    }
     if let Some(difference) = &tally.first {
         show(difference);
     }
-    let missing = tally.numbers.contains(&0);
-    if missing {
+    let unanswered = tally.numbers.contains(&0);
+    if unanswered {
         println!("a number from 0 to 10 was never answered");
     }
-    !missing && tally.agreed == lists
+    let unseen = tally.spheres.contains(&0);
+    if unseen {
+        println!("class 2 in a fire: one of the four was never seen");
+    }
+    !unanswered && !unseen && tally.agreed == lists
 }
 
 fn main() -> ExitCode {

@@ -5,6 +5,8 @@ use desk::chance;
 use desk::logarithm::THRESHOLDS;
 use desk::probit;
 use desk::record::{self, outcome};
+use desk::volume::{LEAST, MOST};
+use std::sync::OnceLock;
 
 /// A record: its kind byte and body.
 pub type Record = Vec<u8>;
@@ -49,6 +51,12 @@ pub fn closing(count: u32, sum: u64) -> Record {
     bytes.extend(count.to_be_bytes());
     bytes.extend(sum.to_be_bytes());
     bytes
+}
+
+/// The number in some bytes of a record.
+pub fn number(record: &[u8], from: usize, width: usize) -> u64 {
+    let bytes = &record[from..from + width];
+    bytes.iter().fold(0, |n, &byte| n << 8 | u64::from(byte))
 }
 
 /// What a target is, as far as its effects depend on it.
@@ -144,6 +152,8 @@ impl Maker<'_> {
             };
             let (volume, edge_heat) = match class {
                 1 | 5 if self.random.percent(50) => edge_volume(self.random),
+                2 if self.random.percent(20) => self.random.pick(sphere_edges()),
+                2 if self.random.percent(70) => (sphere_volume(self.random), 0),
                 _ => (self.volume(), 0),
             };
             self.targets.push(Facts {
@@ -291,17 +301,20 @@ fn duration(random: &mut Random, facts: Facts) -> u16 {
 fn heat(random: &mut Random, facts: Facts, duration: u16) -> u32 {
     match (random.below(6), facts.class) {
         (0, 0) => random.pick(&[0, 1, 2, 3, 34_999, 35_000, 35_001]),
+        (0, 2) => random.pick(&[0, 1, 39_999, 40_000, 40_001, 40_002]),
         (0, _) => random.pick(&[0, 1, 14_999, 15_000, 15_001, 15_002]),
+        // From 60,000 to nearly 4,000,000,000, each octave as often.
+        (1, 2) => (random.between(60_000, 119_999) << random.below(16)) as u32,
         (1, _) => random.between(0, 40_000) as u32,
         (2, _) => step_value(random),
         (3, _) => random.any_size(32) as u32,
         (_, 0) => edge_of_chance(random, |heat| {
             probit::chance(chance::fire_death_probit(heat, duration))
         }),
-        _ => {
-            let volume = chance::volume_term(facts.volume);
+        (_, class) => {
+            let volume = chance::volume_term(class, facts.volume).unwrap_or(0);
             edge_of_chance(random, |heat| {
-                probit::chance(chance::fire_damage_probit(heat, volume))
+                probit::chance(chance::fire_damage_probit(class, heat, volume))
             })
         }
     }
@@ -331,8 +344,8 @@ fn step_value(random: &mut Random) -> u32 {
     (least + random.below(3) - 1).min(u64::from(u32::MAX)) as u32
 }
 
-/// A volume and a heat at which the probit of damage by fire is exactly an
-/// entry of the table, or one millionth less.
+/// A volume and a heat at which the probit of damage by fire for classes 1 and
+/// 5 is exactly an entry of the table, or one millionth less.
 fn edge_volume(random: &mut Random) -> (u32, u32) {
     for _ in 0..100 {
         let heat = random.between(15_001, 400_000) as u32;
@@ -340,20 +353,52 @@ fn edge_volume(random: &mut Random) -> (u32, u32) {
         if probit::chance(entry) == probit::chance(entry - 1) {
             continue;
         }
-        let needed = entry - chance::fire_damage_probit(heat, 0);
-        let Ok(needed @ 1..=4_925_949) = u64::try_from(needed) else {
+        let needed = entry - chance::fire_damage_probit(1, heat, 0);
+        let Ok(needed @ 1..=4_925_949) = i32::try_from(needed) else {
             continue;
         };
-        let volume = (needed * 100_000).div_ceil(4_925_949) as u32;
-        let term = |volume| u64::from(chance::volume_term(volume));
-        if term(volume) == needed {
+        let volume = (needed as u64 * 100_000).div_ceil(4_925_949) as u32;
+        let term = |volume| chance::volume_term(1, volume);
+        if term(volume) == Some(needed) {
             return (volume, heat);
         }
-        if term(volume - 1) == needed - 1 {
+        if term(volume - 1) == Some(needed - 1) {
             return (volume - 1, heat);
         }
     }
     (random.between(0, 100_000) as u32, 0)
+}
+
+/// A volume of class 2 around the limits and the steps of K.
+fn sphere_volume(random: &mut Random) -> u32 {
+    match random.below(4) {
+        0 => random.pick(&[0, 1, MOST, MOST + 1]),
+        1 => random.between(1, MOST.into()) as u32,
+        _ => u32::from(random.pick(&LEAST)) - random.below(2) as u32,
+    }
+}
+
+/// Least volumes of some K and heats at which the probit of damage by fire for
+/// class 2 is exactly an entry of the table, or one millionth less: all of them.
+fn sphere_edges() -> &'static [(u32, u32)] {
+    static EDGES: OnceLock<Vec<(u32, u32)>> = OnceLock::new();
+    EDGES.get_or_init(|| {
+        let mut edges = Vec::new();
+        for volume in LEAST.map(u32::from) {
+            let term = chance::volume_term(2, volume).unwrap_or(0);
+            let probit = |heat| chance::fire_damage_probit(2, heat, term);
+            for entry in (267..=809).map(|entry| entry * 10_000) {
+                if probit::chance(entry) == probit::chance(entry - 1) {
+                    continue;
+                }
+                let heat = least(|heat| probit(heat) >= entry - 1);
+                if probit(heat) <= entry && !edges.contains(&(volume, heat)) {
+                    edges.push((volume, heat));
+                }
+            }
+        }
+        edges
+    })
 }
 
 /// The least value at which the chance, rising with it, reaches a random
@@ -364,14 +409,31 @@ fn edge_of_chance(random: &mut Random, chance: impl Fn(u32) -> u32) -> u32 {
     } else {
         random.between(1, 100) as u32 * 10_000
     };
+    let value = least(|value| chance(value) >= wanted);
+    let value = value.saturating_add(random.below(3) as u32);
+    value.saturating_sub(1)
+}
+
+/// The least value that reaches something, or the greatest where none does.
+fn least(reaches: impl Fn(u32) -> bool) -> u32 {
     let (mut low, mut high) = (0, u32::MAX);
     while low < high {
         let middle = low + (high - low) / 2;
-        if chance(middle) >= wanted {
+        if reaches(middle) {
             high = middle;
         } else {
             low = middle + 1;
         }
     }
-    low.saturating_add(random.below(3) as u32).saturating_sub(1)
+    low
+}
+
+#[test]
+fn edges_of_spheres() {
+    let edges = sphere_edges();
+    assert_eq!(edges.len(), 16);
+    // K 1204 and L 5,313 give exactly 5.95, K 1342 and L 5,599 a millionth less
+    // than 5.05.
+    assert!(edges.contains(&(331, 1_768_269)));
+    assert!(edges.contains(&(9_824, 3_835_794)));
 }
