@@ -67,7 +67,7 @@ fn with_row(targets: u16) -> u16
     }
 }
 
-// Whether a fire has a rule for targets of a class: places of people, atmospheric vessels and pipes.
+// Whether a fire is judged on targets of a class whatever their volume: places of people, atmospheric vessels and pipes.
 fn burns(class: u8) -> bool
     ensures { λ r. ⌜ (r ≡ false → (class ≡ people → ⊥) × (class ≡ atmospheric → ⊥) × (class ≡ pipe → ⊥)) ⌝ }
     ensures { λ r. ⌜ (r ≡ true → (class < pressurised) ⊎ (class ≡ pipe)) ⌝ }
@@ -125,7 +125,8 @@ fn as_kept(sum: u64) -> u64
     sum
 }
 
-// An effect of a fire on a target that has a row, and whether no rule judged it. Where none has a rule the margin alone grows.
+// An effect of a fire on a target that has a row, and whether no rule judged it. Where none has a rule the margin alone grows. Pressurised vessels have a
+// branch of their own, so that the rule that they alone have does not weigh on the others.
 fn fire_row(
     table: &[u32; 256],
     near: &[u8; 512],
@@ -154,7 +155,15 @@ fn fire_row(
         add_chance(b, i, known, chance, sums, facts);
         return 0;
     }
-    if target.class <= class::MACHINE { 1 } else { 0 }
+    if equipment::judged_in_fire(target.class, target.volume) {
+        if target.class == class::PRESSURISED {
+            let chance = equipment::sphere(table, near, rows, 600, target.volume, q, d);
+            add_chance(b, i, known, chance, sums, facts);
+            return 0;
+        }
+        return 0;
+    }
+    1
 }
 
 // That of a flash fire, which harms people alone.

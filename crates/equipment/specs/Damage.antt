@@ -1,9 +1,12 @@
--- To be believed. 01, "Damage (000, table D.2)": the chance of damage to equipment, by any logarithm and any chance of a probit. Assumes nothing.
+-- To be believed. 01, "Damage (000, table D.2)", and 02, request P1: the chance of damage to equipment, by any logarithm, any chance of a probit and any
+-- root of a volume. Assumes nothing.
+use mathlib.Core.Path.{_≡_}
+use mathlib.Core.Bool.{Bool, true, false}
 use Prim.Native.Nat.{ℕ, _+_, _*_, _/_}
 use lib.IntN.{ℤ, pos, _-ℤ_}
-use Rattle.numeric.specs.Choice.{ifEq, ifLt}
+use Rattle.numeric.specs.Choice.{pick, ifEq, ifLt}
 use Rattle.terms.specs.Scales.{Scales, standard}
-use Rattle.terms.specs.Terms.{atmospheric, tower, machine, pipe, people, Clock, judgedAs, unjudged, byKind}
+use Rattle.terms.specs.Terms.{atmospheric, pressurised, tower, machine, pipe, people, Clock, judgedAs, unjudged, byKind}
 use Rattle.terms.specs.declared.Judged.{Judged}
 use Rattle.equipment.specs.declared.BlastRow.{BlastRow}
 
@@ -36,12 +39,36 @@ unfoldable pub heatDamageBy : Scales → ℕ → ℕ → ℕ → ℕ → ℕ
 heatDamageBy s limit volume q duration =
     ifLt 15000 q (ifLt limit duration (s .chance (heatProbitBy s q volume)) 0) 0
 
--- Fire, by class: classes 2 to 4 are not judged.
+-- Y = 457,583 + (1,749,109 × L(Q) × 693,147 / 256,000,000, down) - (16,336,715 × K / 1000, down), in millionths
+unfoldable pub sphereProbitBy : Scales → ℕ → ℕ → ℤ
+sphereProbitBy s q volume = pos (457583 + 1749109 * s .log q * 693147 / 256000000) -ℤ pos (16336715 * s .root volume / 1000)
+
+-- Fire, class 2: above 40,000 W/m² and longer than the limit by the probit, else 0.
+unfoldable pub sphereDamageBy : Scales → ℕ → ℕ → ℕ → ℕ → ℕ
+sphereDamageBy s limit volume q duration =
+    ifLt 40000 q (ifLt limit duration (s .chance (sphereProbitBy s q volume)) 0) 0
+
+-- Fire: the chance by class.
+unfoldable pub fireChanceBy : Scales → ℕ → ℕ → ℕ → ℕ → ℕ → ℕ
+fireChanceBy s limit class volume q duration =
+    ifEq class pressurised (sphereDamageBy s limit volume q duration) (heatDamageBy s limit volume q duration)
+
+-- Fire: whether it is judged, by class and volume alone. Classes 3 and 4 are not, nor is class 2 with a volume of 0 or above 10,000.
+unfoldable pub fireJudged : ℕ → ℕ → Bool
+fireJudged class volume =
+    ifEq class tower false
+    (ifEq class machine false
+    (ifEq class pressurised (ifEq volume 0 false (ifLt 10000 volume false true))
+    true))
+
+-- Fire: both together.
 unfoldable pub fireDamageBy : Scales → ℕ → ℕ → ℕ → ℕ → ℕ → Judged
 fireDamageBy s limit class volume q duration =
-    ifEq class atmospheric (judgedAs (heatDamageBy s limit volume q duration))
-    (ifEq class pipe (judgedAs (heatDamageBy s limit volume q duration))
-    unjudged)
+    pick (fireJudged class volume) (judgedAs (fireChanceBy s limit class volume q duration)) unjudged
+
+-- "in every fire": heat and duration don't say whether it is judged
+abbrev pub FireJudged : Type 0
+FireJudged = (s : Scales) (limit class volume q duration : ℕ) → fireDamageBy s limit class volume q duration .judged ≡ fireJudged class volume
 
 -- The chance of damage, by outcome kind, class, volume, intensity and duration. Flash fire and a kind without effect give 0,
 -- and so does every effect on a class that is no equipment.
@@ -55,12 +82,15 @@ damageBy s clock kind class volume intensity duration =
     (judgedAs (blastDamageBy s (blastRowOf class) intensity))
     (judgedAs 0)))
 
--- by the logarithm and the chances of 01
+-- by the logarithm, the chances and the root of the documents
 abbrev pub blastProbit : BlastRow → ℕ → ℤ
 blastProbit = blastProbitBy standard
 
 abbrev pub heatProbit : ℕ → ℕ → ℤ
 heatProbit = heatProbitBy standard
+
+abbrev pub sphereProbit : ℕ → ℕ → ℤ
+sphereProbit = sphereProbitBy standard
 
 abbrev pub damageOf : Clock → ℕ → ℕ → ℕ → ℕ → ℕ → Judged
 damageOf = damageBy standard

@@ -1,10 +1,13 @@
 // The chance of damage to equipment. The caller lends the tables: the logarithm's thresholds and near steps, and the probit's rows.
 ghost use mathlib.Core.Path.{_≡_};
-ghost use Prim.Native.Nat.{_+_, _*_, _/_, _^_, _<_};
+ghost use mathlib.Core.Bool.{true, false};
+ghost use Prim.Native.Nat.{_+_, _*_, _/_, _^_, _<_, _≤_};
+ghost use Rattle.numeric.specs.Choice.{ifEq, ifLt};
 ghost use Rattle.log2.specs.Tables.{logBy};
 ghost use Rattle.probit.specs.Rows.{chanceBy};
 ghost use Rattle.terms.specs.Lent.{lent};
-ghost use Rattle.equipment.specs.Damage.{blastRowOf, blastProbitBy, blastDamageBy, heatProbitBy, heatDamageBy};
+ghost use Rattle.terms.specs.Terms.{pressurised};
+ghost use Rattle.equipment.specs.Damage.{blastRowOf, blastProbitBy, blastDamageBy, heatProbitBy, heatDamageBy, sphereProbitBy, fireDamageBy, fireJudged};
 use terms::class;
 
 // A row of table D.2 for explosions: what the probit takes off, its factor in hundredths, and the threshold in Pa.
@@ -107,6 +110,85 @@ pub fn heat(
             return heat_chance(table, near, rows, q, volume);
         }
         return 0;
+    }
+    0
+}
+
+// Whether a pressurised vessel has a volume in m³ that the probit of a fire goes by.
+fn has_root(volume: u32) -> bool
+    ensures { λ r. ⌜ r ≡ ifEq volume 0 false (ifLt 10000 volume false true) ⌝ }
+{
+    if volume == 0 {
+        return false;
+    }
+    if 10_000 < volume {
+        return false;
+    }
+    true
+}
+
+// Whether a fire is judged on a target of a class and a volume: not on towers and machines, nor on a pressurised vessel without a root.
+pub fn judged_in_fire(class: u8, volume: u32) -> bool
+    ensures { λ r. ⌜ r ≡ fireJudged class volume ⌝ }
+{
+    if class == class::PEOPLE {
+        return true;
+    }
+    if class == class::ATMOSPHERIC {
+        return true;
+    }
+    if class::PIPE <= class {
+        return true;
+    }
+    if class == class::PRESSURISED {
+        return has_root(volume);
+    }
+    false
+}
+
+// What the probit of a fire takes off for a pressurised vessel of a root.
+fn sphere_size(root: u32) -> u32
+    requires { ⌜ root ≤ 1342 ⌝ }
+    ensures { λ r. ⌜ r ≡ 16336715 * root / 1000 ⌝ }
+{
+    (16_336_715 * (root as u64) / 1_000) as u32
+}
+
+// The chance by the probit of a fire for a pressurised vessel.
+fn sphere_chance(
+    table: &[u32; 256],
+    near: &[u8; 512],
+    rows: &[u32; 544],
+    q: u32,
+    volume: u32,
+) -> u32
+    ensures { λ r. ⌜ r ≡ chanceBy (now (rows .entry)) (sphereProbitBy (lent (now (table .entry)) (now (near .entry)) (now (rows .entry))) q volume) ⌝ }
+{
+    let heat = scaled_log(table, near, 1_749_109, q, 256_000_000);
+    let size = sphere_size(volumes::root(volume));
+    probit::chance(rows, 457_583 + heat, size)
+}
+
+// Fire: heat in W/m² on a pressurised vessel. The root of its volume is looked up past both lines alone.
+pub fn sphere(
+    table: &[u32; 256],
+    near: &[u8; 512],
+    rows: &[u32; 544],
+    limit: u16,
+    volume: u32,
+    q: u32,
+    duration: u16,
+) -> u32
+    ensures { λ r. ⌜ r ≡ fireDamageBy (lent (now (table .entry)) (now (near .entry)) (now (rows .entry))) limit pressurised volume q duration .chance ⌝ }
+{
+    if q <= 40_000 {
+        return 0;
+    }
+    if duration <= limit {
+        return 0;
+    }
+    if has_root(volume) {
+        return sphere_chance(table, near, rows, q, volume);
     }
     0
 }

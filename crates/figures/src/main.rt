@@ -1,4 +1,4 @@
-// Prints the figures of document 01, "Figures on both sides", that speak of branches, logarithms and chances.
+// Prints the figures of document 01, "Figures on both sides", that speak of branches, logarithms and chances, and those of document 02, request P1.
 use libc::STDOUT_FILENO;
 use numeric;
 use terms::Target;
@@ -92,6 +92,70 @@ fn blasts(table: &[u32; 256], near: &[u8; 512], rows: &[u32; 544], class: u8, pa
     word(b"\n");
 }
 
+// A pressurised vessel: volume, heat, duration in a pool fire; chance of damage, or that no rule judges it.
+fn spheres(
+    table: &[u32; 256],
+    near: &[u8; 512],
+    rows: &[u32; 544],
+    volume: u32,
+    q: u32,
+    duration: u16,
+) {
+    let target = Target {
+        class: class::PRESSURISED,
+        setting: setting::INDIVIDUAL,
+        volume: volume,
+    };
+    word(b"sphere");
+    number(volume as u64);
+    number(q as u64);
+    number(duration as u64);
+    number(vulnerability::fire(table, near, rows, target, q, duration) as u64);
+    if !equipment::judged_in_fire(class::PRESSURISED, volume) {
+        word(b" unjudged");
+    }
+    word(b"\n");
+}
+
+// People in a fire: one heat in each setting, and both sides of 35,000 W/m².
+fn all_fires(table: &[u32; 256], near: &[u8; 512], rows: &[u32; 544]) {
+    fires(table, near, rows, setting::INDIVIDUAL, 12_500, 20);
+    fires(table, near, rows, setting::OUTDOORS, 12_500, 20);
+    fires(table, near, rows, setting::INDOORS, 12_500, 20);
+    fires(table, near, rows, setting::INDIVIDUAL, 34_999, 20);
+    fires(table, near, rows, setting::INDIVIDUAL, 35_000, 20);
+}
+
+// Explosions: people indoors, and equipment.
+fn all_blasts(table: &[u32; 256], near: &[u8; 512], rows: &[u32; 544]) {
+    deaths(table, near, rows, setting::INDOORS, 9_999);
+    deaths(table, near, rows, setting::INDOORS, 10_000);
+    deaths(table, near, rows, setting::INDOORS, 30_000);
+    blasts(table, near, rows, class::ATMOSPHERIC, 67_000);
+    blasts(table, near, rows, class::ATMOSPHERIC, 70_000);
+    blasts(table, near, rows, class::PRESSURISED, 29_999);
+    blasts(table, near, rows, class::PRESSURISED, 30_000);
+}
+
+// Pressurised vessels in a fire: both sides of 40,000 W/m², of 600 s, of the volumes that are judged, and of a step of K.
+fn all_spheres(table: &[u32; 256], near: &[u8; 512], rows: &[u32; 544]) {
+    spheres(table, near, rows, 1, 40_000, 601);
+    spheres(table, near, rows, 1, 40_001, 601);
+    spheres(table, near, rows, 1, 60_000, 600);
+    spheres(table, near, rows, 1, 60_000, 601);
+    spheres(table, near, rows, 100, 500_000, 600);
+    spheres(table, near, rows, 100, 500_000, 601);
+    spheres(table, near, rows, 0, 1_000_000, 601);
+    spheres(table, near, rows, 1, 1_000_000, 601);
+    spheres(table, near, rows, 10_000, 1_000_000, 601);
+    spheres(table, near, rows, 10_001, 1_000_000, 601);
+    spheres(table, near, rows, 10_000, 40_001, 601);
+    spheres(table, near, rows, 9_823, 2_000_000, 601);
+    spheres(table, near, rows, 9_824, 2_000_000, 601);
+    spheres(table, near, rows, 0, 0, 1);
+    spheres(table, near, rows, 1, 0, 1);
+}
+
 fn main() {
     let table = log2::thresholds();
     let near = log2::near_steps();
@@ -101,16 +165,7 @@ fn main() {
     logarithm(&table, &near, 1);
     logarithm(&table, &near, 2);
     logarithm(&table, &near, 3);
-    fires(&table, &near, &rows, setting::INDIVIDUAL, 12_500, 20);
-    fires(&table, &near, &rows, setting::OUTDOORS, 12_500, 20);
-    fires(&table, &near, &rows, setting::INDOORS, 12_500, 20);
-    fires(&table, &near, &rows, setting::INDIVIDUAL, 34_999, 20);
-    fires(&table, &near, &rows, setting::INDIVIDUAL, 35_000, 20);
-    deaths(&table, &near, &rows, setting::INDOORS, 9_999);
-    deaths(&table, &near, &rows, setting::INDOORS, 10_000);
-    deaths(&table, &near, &rows, setting::INDOORS, 30_000);
-    blasts(&table, &near, &rows, class::ATMOSPHERIC, 67_000);
-    blasts(&table, &near, &rows, class::ATMOSPHERIC, 70_000);
-    blasts(&table, &near, &rows, class::PRESSURISED, 29_999);
-    blasts(&table, &near, &rows, class::PRESSURISED, 30_000);
+    all_fires(&table, &near, &rows);
+    all_blasts(&table, &near, &rows);
+    all_spheres(&table, &near, &rows);
 }

@@ -1,6 +1,6 @@
 -- Laws of the logarithm. Assumes nothing.
 use mathlib.Core.Path.{_≡_, refl, sym, _∙_, ap}
-use mathlib.Core.Bool.{Bool, true, false}
+use mathlib.Core.Bool.{Bool}
 use Prim.Native.Nat.{ℕ, zero, suc, _+_, _-_, _*_, _%_, _^_, _<_, _≤_}
 use native.Mathlib.Nat.{le-trans, lt-of-lt-of-le, mul-assoc, mul-comm, mul-left-comm, mul-one, pow-zero, pow-suc, mul-zero, mul-suc, pow-le-pow-left, pow-lt-pow-left, le-of-mul-le-mul-right, lt-of-mul-lt-mul-right, mul-le-mul-right, not-le-of-lt}
 use native.Mathlib.Decide.{decLe}
@@ -9,21 +9,10 @@ use lib.Dec.{leb}
 use lib.Pow.{pow-pos, pow-add, pow-mono, shl-exact}
 use lib.Count.{leadingZeros, leading-top}
 use borrow.Author.Tests.{le-leb, lt-leb, leb-true}
-use Rattle.log2.specs.Logarithm.{greatest, logarithm, LogarithmRule, LogarithmOfZero}
+use Rattle.numeric.specs.Greatest.{greatest}
+use Rattle.numeric.proofs.GreatestLaws.{greatest-is, greatest-le, greatest-true, greatest-above}
+use Rattle.log2.specs.Logarithm.{logarithm, LogarithmRule, LogarithmOfZero}
 use Rattle.log2.specs.Tables.{StepOf}
-
--- a number at which the test holds, and above which it fails, is the greatest
-greatest-is : (f : ℕ → Bool) (b r : ℕ) → r ≤ b → f r ≡ true → ((j : ℕ) → r < j → f j ≡ false) → greatest f b ≡ r
-unfolding greatest
-greatest-is f zero r h t g = omega arith
-greatest-is f (suc b) r h t g = go (decLe r b) (λ k. greatest-is f b r k t g)
-  where
-    go : Dec (r ≤ b) → (r ≤ b → greatest f b ≡ r) → greatest f (suc b) ≡ r
-    go (yes k) ih = rw (g (suc b) (omega arith), greatest) (ih k)
-    go (no k) ih =
-        let e : r ≡ suc b = omega arith in
-        let u : f (suc b) ≡ true = rw e at t in
-        rw (u, greatest) (sym e)
 
 -- the logarithm lies between two powers of two
 pub log-is : (n r : ℕ) → r ≤ 8191 → 2 ^ r ≤ n ^ 256 → n ^ 256 < 2 ^ (r + 1) → logarithm n ≡ r
@@ -31,40 +20,6 @@ unfolding logarithm
 log-is n r h l u =
     greatest-is (λ m. leb (2 ^ m) (n ^ 256)) 8191 r h (le-leb _ _ l)
     (λ j k. lt-leb _ _ (lt-of-lt-of-le u (pow-mono (omega arith))))
-
--- where a test falls from true to false once, the greatest number at which it holds is found
-module _ (f : ℕ → Bool) where
-  pub greatest-le : (b : ℕ) → greatest f b ≤ b
-  unfolding greatest
-  greatest-le zero = omega arith
-  greatest-le (suc b) = go (f (suc b)) refl (greatest-le b)
-    where
-      go : (t : Bool) → f (suc b) ≡ t → greatest f b ≤ b → greatest f (suc b) ≤ suc b
-      go true e ih = rw (e, greatest) (omega arith)
-      go false e ih = rw (e, greatest) (omega arith)
-
-  greatest-true : (b : ℕ) → f 0 ≡ true → f (greatest f b) ≡ true
-  unfolding greatest
-  greatest-true zero z = z
-  greatest-true (suc b) z = go (f (suc b)) refl (greatest-true b z)
-    where
-      go : (t : Bool) → f (suc b) ≡ t → f (greatest f b) ≡ true → f (greatest f (suc b)) ≡ true
-      go true e ih = rw (e, greatest) e
-      go false e ih = rw (e, greatest) ih
-
-  greatest-above : (b m : ℕ) → m ≤ b → f m ≡ true → m ≤ greatest f b
-  unfolding greatest
-  greatest-above zero m h t = omega arith
-  greatest-above (suc b) m h t = go (f (suc b)) refl (decLe m b) (λ k. greatest-above b m k t)
-    where
-      go : (u : Bool) → f (suc b) ≡ u → Dec (m ≤ b) → (m ≤ b → m ≤ greatest f b) → m ≤ greatest f (suc b)
-      go true e d ih = rw (e, greatest) h
-      go false e (yes k) ih = rw (e, greatest) (ih k)
-      go false e (no k) ih =
-          let q : m ≡ suc b = omega arith in
-          let w : f (suc b) ≡ true = rw q at t in
-          let z : _≡_ {A = ℕ} 0 1 = cc in
-          omega arith
 
 -- 2^m is at most n^256
 abbrev reached : ℕ → ℕ → Bool

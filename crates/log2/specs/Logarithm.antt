@@ -1,14 +1,9 @@
 -- To be believed. 01, "The logarithm". Assumes nothing.
 use mathlib.Core.Path.{_≡_}
 use mathlib.Core.Logic.{_↔_}
-use mathlib.Core.Bool.{Bool, true, false}
-use Prim.Native.Nat.{ℕ, zero, suc, _^_, _<_, _≤_}
+use Prim.Native.Nat.{ℕ, _^_, _<_, _≤_}
 use lib.Dec.{leb}
-
--- the greatest number up to a bound at which a test holds, and 0 where there is none
-unfoldable pub greatest : (ℕ → Bool) → ℕ → ℕ
-greatest f zero = zero
-greatest f (suc b) = elim (f (suc b)) [ true ↦ suc b | false ↦ greatest f b ]
+use Rattle.numeric.specs.Greatest.{greatest}
 
 -- L(n) of 01: the greatest m for which 2 to the power m is at most n to the power 256. For n below 2^32 it is at most 8191.
 unfoldable pub logarithm : ℕ → ℕ

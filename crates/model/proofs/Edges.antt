@@ -7,12 +7,14 @@ use native.Mathlib.Nat.{lt-irrefl}
 use native.Mathlib.Omega.{arith}
 use Rattle.numeric.specs.Choice.{ifEq, ifLe, ifLt}
 use Rattle.numeric.specs.Share.{shareOf, splitOf}
-use Rattle.log2.specs.Logarithm.{greatest, logarithm}
+use Rattle.numeric.specs.Greatest.{greatest}
+use Rattle.log2.specs.Logarithm.{logarithm}
 use Rattle.probit.specs.Table.{probitTable}
 use Rattle.probit.specs.Chance.{greatestChance, chanceOf}
+use Rattle.volumes.specs.Root.{rootOf}
 use Rattle.terms.specs.Terms.{byKind}
 use Rattle.people.specs.Death.{fireProbitBy, settingShare, fireDeathBy, flashDeath, blastDeath, deathBy}
-use Rattle.equipment.specs.Damage.{blastRowOf, blastProbitBy, blastDamageBy, heatProbitBy, heatDamageBy, fireDamageBy, damageBy}
+use Rattle.equipment.specs.Damage.{blastRowOf, blastProbitBy, blastDamageBy, heatProbitBy, heatDamageBy, sphereProbitBy, sphereDamageBy, fireChanceBy, fireJudged, fireDamageBy, damageBy}
 use Rattle.vulnerability.specs.Effect.{effectBy}
 use Rattle.vulnerability.specs.Domino.{listedBy}
 use Rattle.model.specs.Sums.{sumOver, some, joinOver, numbersBelow}
@@ -24,7 +26,7 @@ use Rattle.model.specs.MeaningTheorems.{Near}
 use Rattle.model.specs.Verdict.{bodyLength, field, decode, cutFirst, cut, partsOf, contentOf, judgeLeft, judge, verdict}
 use Rattle.model.specs.Calls.{totalsOf, targetReportOf, front, pieceNumber, pieceAnswer, totalsAnswer, targetAnswer, dominoAnswer, answer, Callable}
 use Rattle.model.specs.Instances.{Shown, specimen, shownOf}
-use Rattle.model.specs.Edges.{stands, allStand, chances, fatalities, damages, edges, calls, EdgesStand, MarginIsStrict, BytesTo255}
+use Rattle.model.specs.Edges.{stands, allStand, chances, fatalities, damages, spheres, edges, calls, EdgesStand, MarginIsStrict, BytesTo255}
 use Rattle.model.proofs.Instances.{specimen-holds}
 
 chances-stand : allStand chances ≡ true
@@ -36,19 +38,23 @@ unfolding ifEq ifLe ifLt greatest logarithm probitTable greatestChance chanceOf 
 fatalities-stand = refl
 
 damages-stand : allStand damages ≡ true
-unfolding ifEq ifLe ifLt greatest logarithm probitTable greatestChance chanceOf byKind blastRowOf blastProbitBy blastDamageBy heatProbitBy heatDamageBy fireDamageBy damageBy effectBy listedBy stands allStand damages
+unfolding ifEq ifLe ifLt greatest logarithm probitTable greatestChance chanceOf byKind blastRowOf blastProbitBy blastDamageBy heatProbitBy heatDamageBy sphereProbitBy sphereDamageBy fireChanceBy fireJudged fireDamageBy damageBy effectBy listedBy stands allStand damages
 damages-stand = refl
+
+spheres-stand : allStand spheres ≡ true
+unfolding ifEq ifLe ifLt greatest logarithm probitTable greatestChance chanceOf rootOf byKind blastRowOf blastDamageBy heatDamageBy sphereProbitBy sphereDamageBy fireChanceBy fireJudged fireDamageBy damageBy stands allStand spheres
+spheres-stand = refl
 
 faults-stand : allStand edges ≡ true
 unfolding ifEq ifLe ifLt orderFault targetFault leakFault branchingFault outcomeFault namingFault effectFault closingFault ownFault fault gradeOf stands allStand edges
 faults-stand = refl
 
 calls-stand : allStand calls ≡ true
-unfolding ifEq ifLe ifLt shareOf splitOf greatest logarithm probitTable greatestChance chanceOf byKind fireProbitBy settingShare fireDeathBy flashDeath blastDeath deathBy blastRowOf blastProbitBy blastDamageBy heatProbitBy heatDamageBy fireDamageBy damageBy effectBy listedBy sumOver some joinOver numbersBelow bytes encode targetRecords effectRecords treeRecords scenarioRecords leaksOf openRecords countOf treeOutcomes scenarioOutcomes outcomesOf orderFault targetFault leakFault branchingFault outcomeFault namingFault effectFault closingFault ownFault fault contextAfter judgement kindTotal overEffects unjudgedOf sumAt marginAt gradeOf listedAt dominoOf bodyLength field decode cutFirst cut partsOf contentOf judgeLeft judge verdict totalsOf targetReportOf front pieceNumber pieceAnswer totalsAnswer targetAnswer dominoAnswer answer stands allStand calls
+unfolding ifEq ifLe ifLt shareOf splitOf greatest logarithm probitTable greatestChance chanceOf byKind fireProbitBy settingShare fireDeathBy flashDeath blastDeath deathBy blastRowOf blastProbitBy blastDamageBy heatProbitBy heatDamageBy sphereProbitBy sphereDamageBy fireChanceBy fireJudged fireDamageBy damageBy effectBy listedBy sumOver some joinOver numbersBelow bytes encode targetRecords effectRecords treeRecords scenarioRecords leaksOf openRecords countOf treeOutcomes scenarioOutcomes outcomesOf orderFault targetFault leakFault branchingFault outcomeFault namingFault effectFault closingFault ownFault fault contextAfter judgement kindTotal overEffects unjudgedOf sumAt marginAt gradeOf listedAt dominoOf bodyLength field decode cutFirst cut partsOf contentOf judgeLeft judge verdict totalsOf targetReportOf front pieceNumber pieceAnswer totalsAnswer targetAnswer dominoAnswer answer stands allStand calls
 calls-stand = refl
 
 pub edges-stand : EdgesStand
-edges-stand = (chances-stand, fatalities-stand, damages-stand, faults-stand, calls-stand)
+edges-stand = (chances-stand, fatalities-stand, damages-stand, spheres-stand, faults-stand, calls-stand)
 
 -- the specimen's exact sum at target 0
 exact : exactAt specimen 0 ≡ 600000 * 10 ^ 54

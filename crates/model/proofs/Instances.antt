@@ -1,26 +1,28 @@
--- The two instances hold, by computation. Assumes nothing.
+-- The instances hold, by computation. Assumes nothing.
 use mathlib.Core.Path.{_≡_, refl}
 use mathlib.Core.List.{[], _∷_}
-use Prim.Native.Nat.{ℕ, zero, suc, _+_, _≤_}
+use Prim.Native.Nat.{ℕ, zero, suc, _+_, _^_, _<_, _≤_}
 use native.Mathlib.Nat.{zero-add}
 use native.Mathlib.Omega.{arith}
 use Rattle.numeric.specs.Choice.{ifEq, ifLe, ifLt}
 use Rattle.numeric.specs.Share.{shareOf, splitOf}
-use Rattle.log2.specs.Logarithm.{greatest, logarithm}
+use Rattle.numeric.specs.Greatest.{greatest}
+use Rattle.log2.specs.Logarithm.{logarithm}
 use Rattle.probit.specs.Table.{probitTable}
 use Rattle.probit.specs.Chance.{greatestChance, chanceOf}
+use Rattle.volumes.specs.Root.{rootOf}
 use Rattle.terms.specs.Terms.{byKind}
 use Rattle.people.specs.Death.{fireProbitBy, settingShare, fireDeathBy, flashDeath, blastDeath, deathBy}
-use Rattle.equipment.specs.Damage.{blastRowOf, blastProbitBy, blastDamageBy, heatProbitBy, heatDamageBy, fireDamageBy, damageBy}
+use Rattle.equipment.specs.Damage.{blastRowOf, blastProbitBy, blastDamageBy, heatProbitBy, heatDamageBy, sphereProbitBy, sphereDamageBy, fireChanceBy, fireJudged, fireDamageBy, damageBy}
 use Rattle.vulnerability.specs.Effect.{effectBy}
 use Rattle.vulnerability.specs.Domino.{listedBy}
 use Rattle.model.specs.Sums.{sumOver, some, joinOver, numbersBelow}
 use Rattle.model.specs.Content.{inSeconds, Tree, outcome}
 use Rattle.model.specs.Format.{bytes, encode, targetRecords, effectRecords, treeRecords, scenarioRecords, leaksOf, openRecords, countOf, recordsOf, bytesOf}
-use Rattle.model.specs.Valid.{ValidTree, Valid}
+use Rattle.model.specs.Valid.{ValidEffect, ValidTree, Valid}
 use Rattle.model.specs.Outcomes.{treeOutcomes, scenarioOutcomes, outcomesOf}
 use Rattle.model.specs.Report.{judgement, kindTotal, overEffects, unjudgedOf, sumAt, marginAt, exactAt, gradeOf, listedAt, dominoOf}
-use Rattle.model.specs.Instances.{shownOf, specimen, SpecimenHolds, stem, deep, DeepHolds}
+use Rattle.model.specs.Instances.{shownOf, specimen, SpecimenHolds, stem, deep, DeepHolds, tankFarm, TankFarmHolds}
 
 -- an outcome without effects is valid anywhere
 nothing-valid : (targets above : ℕ) → ValidTree targets above (outcome 0 [])
@@ -90,10 +92,44 @@ deep-valid =
       fewRecords = omega arith;
     }
 
+-- a fire of 601 s on one of five targets
+burning : (t q : ℕ) → t < 5 → q < 2 ^ 32 → ValidEffect 1 5 (inSeconds t q 601)
+burning t q a b = omega (arith, a, b)
+
+tank-farm-tree-valid :
+    ValidTree 5 0
+    (outcome 1 (inSeconds 0 2000000 601 ∷ inSeconds 1 1000000 601 ∷ inSeconds 2 2000000 601 ∷ inSeconds 3 2000000 601 ∷ inSeconds 4 2000000 601 ∷ []))
+unfolding ValidTree
+tank-farm-tree-valid =
+    record {
+      known = omega arith;
+      few = omega arith;
+      none = omega arith;
+      effects = (burning 0 2000000 (omega arith) (omega arith), (burning 1 1000000 (omega arith) (omega arith), (burning 2 2000000 (omega arith) (omega arith), (burning 3 2000000 (omega arith) (omega arith), (burning 4 2000000 (omega arith) (omega arith), tt)))));
+      rising = omega arith;
+    }
+
+tank-farm-valid : Valid tankFarm
+unfolding tankFarm countOf openRecords targetRecords joinOver scenarioRecords treeRecords effectRecords
+tank-farm-valid =
+    record {
+      number = omega arith;
+      fewTargets = omega arith;
+      targets = omega arith;
+      fewScenarios = omega arith;
+      rising = omega arith;
+      scenarios = (record { number = omega arith; least = omega arith; most = omega arith; tree = tank-farm-tree-valid }, tt);
+      fewRecords = omega arith;
+    }
+
 pub specimen-holds : SpecimenHolds
-unfolding ifEq ifLe ifLt shareOf splitOf greatest logarithm probitTable greatestChance chanceOf byKind fireProbitBy settingShare fireDeathBy flashDeath blastDeath deathBy blastRowOf blastProbitBy blastDamageBy heatProbitBy heatDamageBy fireDamageBy damageBy effectBy listedBy sumOver some joinOver numbersBelow bytes encode targetRecords effectRecords treeRecords scenarioRecords leaksOf openRecords countOf recordsOf bytesOf treeOutcomes scenarioOutcomes outcomesOf judgement kindTotal overEffects unjudgedOf sumAt marginAt exactAt gradeOf listedAt dominoOf shownOf specimen
+unfolding ifEq ifLe ifLt shareOf splitOf greatest logarithm probitTable greatestChance chanceOf byKind fireProbitBy settingShare fireDeathBy flashDeath blastDeath deathBy blastRowOf blastProbitBy blastDamageBy heatProbitBy heatDamageBy sphereProbitBy sphereDamageBy fireChanceBy fireJudged fireDamageBy damageBy effectBy listedBy sumOver some joinOver numbersBelow bytes encode targetRecords effectRecords treeRecords scenarioRecords leaksOf openRecords countOf recordsOf bytesOf treeOutcomes scenarioOutcomes outcomesOf judgement kindTotal overEffects unjudgedOf sumAt marginAt exactAt gradeOf listedAt dominoOf shownOf specimen
 specimen-holds = record { valid = specimen-valid; bytes = refl; shown = refl }
 
 pub deep-holds : DeepHolds
-unfolding ifEq ifLe ifLt shareOf splitOf greatest logarithm probitTable greatestChance chanceOf byKind fireProbitBy settingShare fireDeathBy flashDeath blastDeath deathBy blastRowOf blastProbitBy blastDamageBy heatProbitBy heatDamageBy fireDamageBy damageBy effectBy listedBy sumOver some joinOver numbersBelow bytes encode targetRecords effectRecords treeRecords scenarioRecords leaksOf openRecords countOf recordsOf bytesOf treeOutcomes scenarioOutcomes outcomesOf judgement kindTotal overEffects unjudgedOf sumAt marginAt exactAt gradeOf listedAt dominoOf shownOf stem deep
+unfolding ifEq ifLe ifLt shareOf splitOf greatest logarithm probitTable greatestChance chanceOf byKind fireProbitBy settingShare fireDeathBy flashDeath blastDeath deathBy blastRowOf blastProbitBy blastDamageBy heatProbitBy heatDamageBy sphereProbitBy sphereDamageBy fireChanceBy fireJudged fireDamageBy damageBy effectBy listedBy sumOver some joinOver numbersBelow bytes encode targetRecords effectRecords treeRecords scenarioRecords leaksOf openRecords countOf recordsOf bytesOf treeOutcomes scenarioOutcomes outcomesOf judgement kindTotal overEffects unjudgedOf sumAt marginAt exactAt gradeOf listedAt dominoOf shownOf stem deep
 deep-holds = record { valid = deep-valid; bytes = refl; shown = refl }
+
+pub tank-farm-holds : TankFarmHolds
+unfolding ifEq ifLe ifLt shareOf splitOf greatest logarithm probitTable greatestChance chanceOf rootOf byKind fireProbitBy settingShare fireDeathBy flashDeath blastDeath deathBy blastRowOf blastProbitBy blastDamageBy heatProbitBy heatDamageBy sphereProbitBy sphereDamageBy fireChanceBy fireJudged fireDamageBy damageBy effectBy listedBy sumOver some joinOver numbersBelow bytes encode targetRecords effectRecords treeRecords scenarioRecords leaksOf openRecords countOf recordsOf bytesOf treeOutcomes scenarioOutcomes outcomesOf judgement kindTotal overEffects unjudgedOf sumAt marginAt exactAt gradeOf listedAt dominoOf shownOf tankFarm
+tank-farm-holds = record { valid = tank-farm-valid; bytes = refl; shown = refl }

@@ -13,7 +13,8 @@ use Rattle.probit.specs.Chance.{chanceOf}
 use Rattle.terms.specs.Terms.{explosion, seconds}
 use Rattle.terms.specs.declared.Judged.{Judged}
 use Rattle.terms.specs.declared.Target.{Target as Facts}
-use Rattle.equipment.specs.Damage.{blastRowOf, blastProbit, heatProbit, damageOf}
+use Rattle.terms.specs.Scales.{Scales}
+use Rattle.equipment.specs.Damage.{blastRowOf, blastProbit, heatProbit, sphereProbit, blastDamageBy, fireChanceBy, damageOf}
 use Rattle.vulnerability.specs.Effect.{effectOn}
 use Rattle.vulnerability.specs.Domino.{listedBy}
 use Rattle.vulnerability.specs.Figures.{and, same}
@@ -34,6 +35,11 @@ pub data Edge : Type 0 where
   blasts : ℕ → ℕ → ℕ → Edge
   -- heat, volume; Y of a fire for equipment
   heatY : ℕ → ℕ → ℤ → Edge
+  -- heat, volume; Y of a fire for a pressurised vessel
+  sphereY : ℕ → ℕ → ℤ → Edge
+  -- class, Pa; class, volume, heat, duration: 1 where the rule goes by its probit
+  blastLines : ℕ → ℕ → ℕ → Edge
+  fireLines : ℕ → ℕ → ℕ → ℕ → ℕ → Edge
   -- class, volume, heat, duration; chance of damage in a pool fire, and whether it is judged
   fires : ℕ → ℕ → ℕ → ℕ → ℕ → Bool → Edge
   -- how many Ys table D.3 has; their sum in hundredths
@@ -77,11 +83,18 @@ numbersOf (gaveTotals t) = t .number ∷ t .place ∷ t .study ∷ t .records �
 numbersOf (gaveTarget r) = r .number ∷ r .place ∷ r .sum ∷ r .margin ∷ r .class ∷ r .grade ∷ pick (r .listed) 1 0 ∷ []
 numbersOf (gaveDomino r l) = r .number ∷ r .place ∷ r .count ∷ l
 
+-- scales by which every probit has chance 1: they show where a rule goes by its probit, even where document 01's chance is 0 on both sides
+abbrev pub allOne : Scales
+allOne = record { log = λ n. n; chance = λ y. 1; root = λ v. 0 }
+
 unfoldable pub stands : Edge → Bool
 stands (grades s g) = eqb (gradeOf s) g
 stands (blastY class pa y) = sameZ (blastProbit (blastRowOf class) pa) y
 stands (blasts class pa c) = eqb (damageOf seconds explosion class 0 pa 0 .chance) c
 stands (heatY q v y) = sameZ (heatProbit q v) y
+stands (sphereY q v y) = sameZ (sphereProbit q v) y
+stands (blastLines class pa c) = eqb (blastDamageBy allOne (blastRowOf class) pa) c
+stands (fireLines class v q d c) = eqb (fireChanceBy allOne (seconds .limit) class v q d) c
 stands (fires class v q d c j) = sameJudged (damageOf seconds 1 class v q d) (record { chance = c; judged = j })
 stands (page n total) = and (eqb (length probits) n) (eqb (sumOver (λ y. y) probits) total)
 stands (rises y below from) = and (eqb (chanceOf (pos (y * 10000 - 1))) below) (eqb (chanceOf (pos (y * 10000))) from)
@@ -154,6 +167,17 @@ damages =
     harms 2 1 100000 15001 601 440000 true ∷ harms 3 5 100000 15001 601 440000 true ∷ harms 5 1 0 70000 0 720000 true ∷
     harms 1 2 0 0 1 0 false ∷ harms 2 3 0 0 1 0 false ∷ harms 3 4 0 0 1 0 false ∷ harms 4 1 0 1 0 0 true ∷ harms 4 2 0 1 0 0 true ∷ harms 4 5 0 1 0 0 true ∷ harms 0 1 0 70000 0 0 true ∷
     listings 700000 10000000 false ∷ listings 700001 10000000 true ∷ listings 700001 9999999 false ∷
+    []
+
+-- 02, request P1: every number of the probit, of which the first two are close to where the quotient grows by one; a volume on each side of a step of K; 600 s;
+-- volumes 0 and 1, 10,000 and 10,001, in weak and short fires too. Where a rule goes by its probit: guards 40,000 W/m² and class 1's 5,170 Pa.
+unfoldable pub spheres : List Edge
+spheres =
+    sphereY 63000 1 (pos 3448064) ∷ sphereY 72000 1 (pos 3680122) ∷ sphereY 63000 10000 (negsuc 2139091) ∷
+    fires 2 1 60000 600 0 true ∷ fires 2 1 60000 601 50000 true ∷ fires 2 9823 2000000 601 140000 true ∷ fires 2 9824 2000000 601 130000 true ∷
+    fires 2 1 0 1 0 true ∷ fires 2 0 0 1 0 false ∷ fires 2 0 60000 601 0 false ∷ fires 2 10000 1000000 601 10000 true ∷ fires 2 10001 1000000 601 0 false ∷ fires 2 10001 0 1 0 false ∷
+    fireLines 2 1 40000 601 0 ∷ fireLines 2 1 40001 601 1 ∷ fireLines 2 1 40001 600 0 ∷ fireLines 1 1 15000 601 0 ∷ fireLines 1 1 15001 601 1 ∷
+    blastLines 1 5169 0 ∷ blastLines 1 5170 1 ∷
     []
 
 -- Grades, and the faults of records: guards each power of ten, each bound, the numbers 2 to 6 and their order, and the closing count.
@@ -243,7 +267,7 @@ calls =
     []
 
 abbrev pub EdgesStand : Type 0
-EdgesStand = (allStand chances ≡ true) × (allStand fatalities ≡ true) × (allStand damages ≡ true) × (allStand edges ≡ true) × (allStand calls ≡ true)
+EdgesStand = (allStand chances ≡ true) × (allStand fatalities ≡ true) × (allStand damages ≡ true) × (allStand spheres ≡ true) × (allStand edges ≡ true) × (allStand calls ≡ true)
 
 -- A margin of 1 is too little one unit off: the specimen's exact sum at target 0 is 600,000 units, so 10^54 parts and no other number make a unit of it.
 abbrev pub MarginIsStrict : Type 0

@@ -1,4 +1,4 @@
--- Proved. Two contents with their bytes and their figures, as numbers. Assumes nothing.
+-- Proved. Three contents with their bytes and their figures, as numbers. Assumes nothing.
 use mathlib.Core.Path.{_≡_}
 use mathlib.Core.List.{List, [], _∷_, _++_}
 use Prim.Native.Nat.{ℕ, zero, suc}
@@ -169,3 +169,62 @@ deepShown =
 
 abbrev pub DeepHolds : Type 0
 DeepHolds = Instance deep deepBytes deepShown
+
+-- A tank farm under 02, request P1: one pool fire on pressurised vessels of 0, 1, 9,823, 9,824 and 10,001 m³. The first and the last are unjudged. At 1,000,000 W/m²
+-- Y is 457,583 + 24,162,546 - 16,336,715 = 8,283,414 for 1 m³ (K 1000), 99.9 %, which lists it. At 2,000,000 W/m² the third has K 1341, Y 457,583 + 25,374,936
+-- - 21,907,534 = 3,924,985, 14 %, and the fourth K 1342, Y 3,908,648, 13 %.
+unfoldable pub tankFarm : Content
+tankFarm =
+    record {
+      number = 9;
+      targets = target 2 0 0 ∷ target 2 0 1 ∷ target 2 0 9823 ∷ target 2 0 9824 ∷ target 2 0 10001 ∷ [];
+      scenarios =
+          record {
+            number = 1;
+            frequency = 10000000;
+            tree =
+                outcome 1
+                (inSeconds 0 2000000 601 ∷ inSeconds 1 1000000 601 ∷ inSeconds 2 2000000 601 ∷ inSeconds 3 2000000 601 ∷ inSeconds 4 2000000 601 ∷ []);
+          }
+          ∷ [];
+    }
+
+abbrev pub tankFarmBytes : List ℕ
+tankFarmBytes =
+    1 ∷ 0 ∷ 0 ∷ 0 ∷ 9 ∷
+    2 ∷ 0 ∷ 0 ∷ 2 ∷ 0 ∷ 0 ∷ 0 ∷ 0 ∷ 0 ∷
+    2 ∷ 0 ∷ 1 ∷ 2 ∷ 0 ∷ 0 ∷ 0 ∷ 0 ∷ 1 ∷
+    2 ∷ 0 ∷ 2 ∷ 2 ∷ 0 ∷ 0 ∷ 0 ∷ 38 ∷ 95 ∷
+    2 ∷ 0 ∷ 3 ∷ 2 ∷ 0 ∷ 0 ∷ 0 ∷ 38 ∷ 96 ∷
+    2 ∷ 0 ∷ 4 ∷ 2 ∷ 0 ∷ 0 ∷ 0 ∷ 39 ∷ 17 ∷
+    3 ∷ 0 ∷ 0 ∷ 0 ∷ 1 ∷ 0 ∷ 0 ∷ 0 ∷ 0 ∷ 0 ∷ 152 ∷ 150 ∷ 128 ∷
+    5 ∷ 1 ∷ 0 ∷ 5 ∷
+    6 ∷ 0 ∷ 0 ∷ 0 ∷ 30 ∷ 132 ∷ 128 ∷ 2 ∷ 89 ∷
+    6 ∷ 0 ∷ 1 ∷ 0 ∷ 15 ∷ 66 ∷ 64 ∷ 2 ∷ 89 ∷
+    6 ∷ 0 ∷ 2 ∷ 0 ∷ 30 ∷ 132 ∷ 128 ∷ 2 ∷ 89 ∷
+    6 ∷ 0 ∷ 3 ∷ 0 ∷ 30 ∷ 132 ∷ 128 ∷ 2 ∷ 89 ∷
+    6 ∷ 0 ∷ 4 ∷ 0 ∷ 30 ∷ 132 ∷ 128 ∷ 2 ∷ 89 ∷
+    7 ∷ 0 ∷ 0 ∷ 0 ∷ 14 ∷ 0 ∷ 0 ∷ 0 ∷ 0 ∷ 0 ∷ 152 ∷ 150 ∷ 128 ∷ []
+
+abbrev pub tankFarmShown : Shown
+tankFarmShown =
+    record {
+      records = 14;
+      leaks = 10000000;
+      kinds = 0 ∷ 10000000 ∷ 0 ∷ 0 ∷ 0 ∷ 0 ∷ [];
+      unjudged = 2;
+      sums = 0 ∷ 9990000 ∷ 1400000 ∷ 1300000 ∷ 0 ∷ [];
+      margins = 1 ∷ 1 ∷ 1 ∷ 1 ∷ 1 ∷ [];
+      grades = 0 ∷ 2 ∷ 2 ∷ 2 ∷ 0 ∷ [];
+      domino = 1 ∷ [];
+      exacts =
+          0
+          ∷ 9990000000000000000000000000000000000000000000000000000000000
+          ∷ 1400000000000000000000000000000000000000000000000000000000000
+          ∷ 1300000000000000000000000000000000000000000000000000000000000
+          ∷ 0
+          ∷ [];
+    }
+
+abbrev pub TankFarmHolds : Type 0
+TankFarmHolds = Instance tankFarm tankFarmBytes tankFarmShown

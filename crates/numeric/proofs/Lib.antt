@@ -1,3 +1,4 @@
 pub mod ChoiceLaws
 pub mod ShareLaws
 pub mod TableLaws
+pub mod GreatestLaws

@@ -8,12 +8,13 @@ use lib.ListN.{length}
 use Rattle.io.specs.Digits.{digits, Fewest}
 use Rattle.numeric.specs.Choice.{ifEq, ifLe, ifLt}
 use Rattle.numeric.specs.Share.{shareOf, splitOf}
-use Rattle.log2.specs.Logarithm.{greatest, logarithm}
+use Rattle.numeric.specs.Greatest.{greatest}
+use Rattle.log2.specs.Logarithm.{logarithm}
 use Rattle.probit.specs.Table.{probitTable}
 use Rattle.probit.specs.Chance.{greatestChance, chanceOf}
 use Rattle.terms.specs.Terms.{byKind}
 use Rattle.people.specs.Death.{fireProbitBy, settingShare, fireDeathBy, flashDeath, blastDeath, deathBy}
-use Rattle.equipment.specs.Damage.{blastRowOf, blastProbitBy, blastDamageBy, heatProbitBy, heatDamageBy, fireDamageBy, damageBy}
+use Rattle.equipment.specs.Damage.{blastRowOf, blastProbitBy, blastDamageBy, heatProbitBy, heatDamageBy, sphereProbitBy, sphereDamageBy, fireChanceBy, fireJudged, fireDamageBy, damageBy}
 use Rattle.vulnerability.specs.Effect.{effectBy}
 use Rattle.vulnerability.specs.Domino.{listedBy}
 use Rattle.state.specs.declared.Totals.{Totals}
@@ -79,7 +80,7 @@ vessel = record { number = 0; place = 98; sum = 16200000; margin = 3; class = 1;
 
 reports-are : (totalsOf (length (bytesOf specimen)) specimen ≡ sevenTotals)
     × (targetReportOf (length (bytesOf specimen)) specimen 0 ≡ houses) × (targetReportOf (length (bytesOf specimen)) specimen 1 ≡ vessel)
-unfolding ifEq ifLe ifLt shareOf splitOf greatest logarithm probitTable greatestChance chanceOf byKind fireProbitBy settingShare fireDeathBy flashDeath blastDeath deathBy blastRowOf blastProbitBy blastDamageBy heatProbitBy heatDamageBy fireDamageBy damageBy effectBy listedBy sumOver some joinOver bytes encode targetRecords effectRecords treeRecords scenarioRecords leaksOf openRecords countOf recordsOf bytesOf treeOutcomes scenarioOutcomes outcomesOf judgement kindTotal overEffects unjudgedOf sumAt marginAt gradeOf listedAt totalsOf targetReportOf specimen
+unfolding ifEq ifLe ifLt shareOf splitOf greatest logarithm probitTable greatestChance chanceOf byKind fireProbitBy settingShare fireDeathBy flashDeath blastDeath deathBy blastRowOf blastProbitBy blastDamageBy heatProbitBy heatDamageBy sphereProbitBy sphereDamageBy fireChanceBy fireJudged fireDamageBy damageBy effectBy listedBy sumOver some joinOver bytes encode targetRecords effectRecords treeRecords scenarioRecords leaksOf openRecords countOf recordsOf bytesOf treeOutcomes scenarioOutcomes outcomesOf judgement kindTotal overEffects unjudgedOf sumAt marginAt gradeOf listedAt totalsOf targetReportOf specimen
 reports-are = (refl, refl, refl)
 
 houses-words : judgedWords houses ≡ gradeWord ++ digits 10 1 1

@@ -1,19 +1,22 @@
 -- `effects::fire_row` meets its contract, class by class. Assumes nothing.
 use mathlib.Core.Path.{_≡_, refl, sym, _∙_, ap}
+use mathlib.Core.Bool.{false}
 use Prim.Native.Nat.{ℕ, _<_}
 use mathlib.Core.Logic.{inl}
 use native.Mathlib.Omega.{arith}
 use Rattle.terms.specs.declared.Judged.{Judged}
 use Rattle.terms.specs.Terms.{judgedAs, unjudged}
-use Rattle.vulnerability.proofs.FormLaws.{fires-alike, fire-judged, unjudged-fire, no-class, without-effect}
+use Rattle.equipment.specs.Damage.{fireJudged}
+use Rattle.equipment.proofs.FireLaws.{unjudged-class, burning-judged, above-two, beyond-classes}
+use Rattle.vulnerability.proofs.FormLaws.{fires-alike, fire-judged, unjudged-fire, sphere-fire, no-class, without-effect}
 use Rattle.effects.proofs.RowLaws.{added, spared}
 use borrow.Author.Needs.{needs}
 use Rattle.effects.proofs.fire_row.Statement.{statement}
 use Rattle.effects.proofs.fire_row.Tie as tie
 
--- the fifth class burns
-no-five : {x : ℕ} → (x ≡ 5 → ⊥) → 4 < x → 5 < x
-no-five n h = omega (arith, n, h)
+-- no place of people is unjudged
+unjudged-equipment : (class volume : ℕ) → fireJudged class volume ≡ false → class ≡ 0 → ⊥
+unjudged-equipment class volume e z = omega (arith, unjudged-class class volume e)
 
 add-margin-requires : tie.Need-add-margin-requires
 add-margin-requires c κs = search needs
@@ -62,33 +65,53 @@ returns-2 c =
     let a = k .before .before .before .before in
     let s = a .before .before in
     let l : 0 < s .args .b .kind = omega (arith, n .if1 .left) in
-    (added _ _ _ _ _ _ _ _ _ (s .pre .0) (a .add-margin .ensures) _ (k .unpack-facts .ensures) _ _ _ (x .fire .ensures ∙ ap (λ (j : Judged). j .chance) (sym (fires-alike _ _ _ _ _ _ l (s .pre .1)))) (fire-judged _ _ _ _ _ l (s .pre .1) (t .before .burns .ensures .1 (t .if2 .taken))) (c .add-chance .ensures .0) (c .add-chance .ensures .1), omega arith)
+    (added _ _ _ _ _ _ _ _ _ (s .pre .0) (a .add-margin .ensures) _ (k .unpack-facts .ensures) _ _ _ (x .fire .ensures ∙ ap (λ (j : Judged). j .chance) (sym (fires-alike _ _ _ _ _ _ l (s .pre .1)))) (burning-judged _ _ (t .before .burns .ensures .1 (t .if2 .taken)) ∙ fire-judged _ _ _ _ _ l (s .pre .1)) (c .add-chance .ensures .0) (c .add-chance .ensures .1), omega arith)
+
+judged-in-fire-requires : tie.Need-judged-in-fire-requires
+judged-in-fire-requires c κs = search needs
+
+sphere-requires : tie.Need-sphere-requires
+sphere-requires c κs = search needs
+
+add-chance-requires-2 : tie.Need-add-chance-requires-2
+add-chance-requires-2 c κs = search needs
 
 returns-3 : tie.Need-returns-3
 returns-3 c =
-    let o = c .before .before in
-    let y = o .before in
-    let n = y .before in
+    let x = c .before .before .before in
+    let two = x .before .if4 .taken in
+    let g = x .before .before .before in
+    let n = g .before .before .before .before in
     let k = n .before .before in
-    let w = k .before .as-kept .ensures in
     let a = k .before .before .before .before in
     let s = a .before .before in
-    let none = y .burns .ensures .0 (o .if2 .left) in
     let l : 0 < s .args .b .kind = omega (arith, n .if1 .left) in
-    (spared _ _ _ _ _ _ _ _ _ (s .pre .0) (a .add-margin .ensures) _ (k .unpack-facts .ensures) unjudged 1 (unjudged-fire _ _ _ _ _ (none .0) l (s .pre .1) (none .1) (c .if3 .taken)) refl refl (omega (arith, w .0, w .1)), omega arith)
+    (added _ _ _ _ _ _ _ _ _ (s .pre .0) (a .add-margin .ensures) _ (k .unpack-facts .ensures) _ _ _ (sphere-fire _ _ _ _ _ (λ e. omega (arith, e, two)) l (s .pre .1) two (x .sphere .ensures)) (sym (g .if3 .taken) ∙ g .before .judged-in-fire .ensures ∙ fire-judged _ _ _ _ _ l (s .pre .1)) (c .add-chance2 .ensures .0) (c .add-chance2 .ensures .1), omega arith)
 
 returns-4 : tie.Need-returns-4
 returns-4 c =
-    let o = c .before .before in
-    let y = o .before in
-    let n = y .before in
+    let g = c .before .before in
+    let u = g .before .before in
+    let n = u .before .before in
     let k = n .before .before in
     let w = k .before .as-kept .ensures in
     let a = k .before .before .before .before in
     let s = a .before .before in
-    let none = y .burns .ensures .0 (o .if2 .left) in
-    let v = no-five (none .2) (c .if3 .left) in
+    let none = u .before .burns .ensures .0 (u .if2 .left) in
+    let v = beyond-classes _ _ (sym (g .before .judged-in-fire .ensures) ∙ g .if3 .taken) (above-two _ (none .0) (none .1) (c .if4 .left)) (none .2) in
     (spared _ _ _ _ _ _ _ _ _ (s .pre .0) (a .add-margin .ensures) _ (k .unpack-facts .ensures) (judgedAs 0) 0 (no-class _ _ _ _ _ (none .0) v) refl refl (omega (arith, w .0, w .1)), omega arith)
+
+returns-5 : tie.Need-returns-5
+returns-5 c =
+    let j = c .before in
+    let n = j .before .before .before in
+    let k = n .before .before in
+    let w = k .before .as-kept .ensures in
+    let a = k .before .before .before .before in
+    let s = a .before .before in
+    let none = sym (j .judged-in-fire .ensures) ∙ c .if3 .left in
+    let l : 0 < s .args .b .kind = omega (arith, n .if1 .left) in
+    (spared _ _ _ _ _ _ _ _ _ (s .pre .0) (a .add-margin .ensures) _ (k .unpack-facts .ensures) unjudged 1 (unjudged-fire _ _ _ _ _ (unjudged-equipment _ _ none) l (s .pre .1) none) refl refl (omega (arith, w .0, w .1)), omega arith)
 
 pub fire-row-spec : {M : Type 1} → statement M
 fire-row-spec =
@@ -106,5 +129,9 @@ fire-row-spec =
     fire-requires
     add-chance-requires
     returns-2
+    judged-in-fire-requires
+    sphere-requires
+    add-chance-requires-2
     returns-3
-    returns-4)
+    returns-4
+    returns-5)
