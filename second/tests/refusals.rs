@@ -4,7 +4,7 @@
 mod common;
 
 use common::{Builder, specimen};
-use desk::{Answer, Study};
+use second_desk::{Answer, Study};
 
 /// Feeds the bytes whole and byte by byte; both must give the same answer and
 /// leave the same reports. Gives the last answer and the study.

@@ -4,7 +4,7 @@
 mod common;
 
 use common::{Builder, specimen};
-use desk::{Answer, Standing, Study, report_text};
+use second_desk::{Answer, Standing, Study, report_text};
 
 fn closed(builder: &Builder) -> Study {
     let mut study = Study::new();

@@ -3,7 +3,7 @@
 mod common;
 
 use common::{repository, specimen, vectors};
-use desk::text::{show, to_bytes};
+use second_desk::text::{show, to_bytes};
 use std::fs;
 
 fn error(text: &str) -> String {

@@ -3,7 +3,7 @@
 mod common;
 
 use common::vectors;
-use desk::{report_text, report_text_of_pieces};
+use second_desk::{report_text, report_text_of_pieces};
 
 #[test]
 fn there_are_52() {

@@ -61,7 +61,7 @@ mod first {
 /// one target's sum is asked; 0 where it is refused.
 #[inline(never)]
 fn second_sum_at(bytes: &[u8], size: usize, target: u16) -> u64 {
-    let mut study = desk::Study::new();
+    let mut study = second_desk::Study::new();
     for piece in bytes.chunks(size.max(1)) {
         study.piece(piece);
     }
@@ -74,7 +74,7 @@ fn second_sum_at(bytes: &[u8], size: usize, target: u16) -> u64 {
 /// The total of an outcome kind, asked in the same way; 0 for no kind.
 #[inline(never)]
 fn second_total_of(bytes: &[u8], size: usize, kind: u8) -> u64 {
-    let mut study = desk::Study::new();
+    let mut study = second_desk::Study::new();
     for piece in bytes.chunks(size.max(1)) {
         study.piece(piece);
     }
@@ -152,7 +152,7 @@ fn check(input: &Input) -> bool {
             return false;
         }
     }
-    let (mut reader, mut study) = (plain::Reader::new(), desk::Study::new());
+    let (mut reader, mut study) = (plain::Reader::new(), second_desk::Study::new());
     let answers = (reader.piece(bytes), study.piece(bytes));
     let figures_agree =
         (0..=input.targets).all(|target| reader.target(target) == study.target(target));
@@ -245,6 +245,6 @@ fn main() {
     );
     println!(
         "state of the Rust study: {} bytes",
-        size_of::<desk::Study>()
+        size_of::<second_desk::Study>()
     );
 }

@@ -2,11 +2,11 @@
 //! document 02, to time the others by: the rules as they are written, nothing
 //! prepared for speed.
 
-use desk::chance::{class, setting};
-use desk::logarithm::THRESHOLDS;
-use desk::record::{self, number, outcome};
-use desk::volume::LEAST;
-use desk::{Answer, Report, Standing, TargetFigures, Totals};
+use second_desk::chance::{class, setting};
+use second_desk::logarithm::THRESHOLDS;
+use second_desk::record::{self, number, outcome};
+use second_desk::volume::LEAST;
+use second_desk::{Answer, Report, Standing, TargetFigures, Totals};
 
 const MAX_TARGETS: usize = 256;
 const MAX_SCENARIOS: u32 = 65_536;
@@ -568,7 +568,7 @@ fn fire_damage(target: &Target, heat: u32, duration: u16) -> u32 {
 #[cfg(test)]
 mod tests {
     use super::*;
-    use desk::Study;
+    use second_desk::Study;
 
     /// Feeds both readers the same pieces; answers and reports must be the
     /// same throughout. Gives the last answer's number.

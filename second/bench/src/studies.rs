@@ -1,6 +1,6 @@
 //! The studies that are timed, made from a seed.
 
-use desk::record;
+use second_desk::record;
 
 /// A closed study.
 pub struct Input {

@@ -5,5 +5,5 @@ use std::io::{Read, Write};
 fn main() -> std::io::Result<()> {
     let mut bytes = Vec::new();
     std::io::stdin().lock().read_to_end(&mut bytes)?;
-    std::io::stdout().write_all(desk::report_text(&bytes).as_bytes())
+    std::io::stdout().write_all(second_desk::report_text(&bytes).as_bytes())
 }

@@ -22,9 +22,9 @@ fn run(words: &[String]) -> Result<Vec<u8>, String> {
         [verb, file] if verb == "bytes" => {
             let text = String::from_utf8(read(file)?)
                 .map_err(|_| format!("{file}: expected text in UTF-8"))?;
-            desk::text::to_bytes(&text).map_err(|error| format!("{file}: {error}"))
+            second_desk::text::to_bytes(&text).map_err(|error| format!("{file}: {error}"))
         }
-        [verb, file] if verb == "show" => Ok(desk::text::show(&read(file)?).into_bytes()),
+        [verb, file] if verb == "show" => Ok(second_desk::text::show(&read(file)?).into_bytes()),
         _ => Err(USAGE.into()),
     }
 }

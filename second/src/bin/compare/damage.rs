@@ -2,7 +2,7 @@
 
 use crate::random::Random;
 use crate::studies::{self, Record};
-use desk::record::{self, outcome};
+use second_desk::record::{self, outcome};
 
 /// Puts one to three faults into a valid study, often into the same record.
 pub fn damage(random: &mut Random, records: &mut Vec<Record>) {

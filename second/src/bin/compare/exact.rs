@@ -6,7 +6,7 @@
 
 use crate::random::Random;
 use crate::studies::{self, Record, number};
-use desk::{Study, chance, record};
+use second_desk::{Study, chance, record};
 
 const MILLION: u64 = 1_000_000;
 

@@ -165,7 +165,7 @@ fn compare(
     calls: Vec<u8>,
     tally: &Mutex<Tally>,
 ) -> Result<(), String> {
-    let second = desk::replay::replay(&calls);
+    let second = second_desk::replay::replay(&calls);
     let first = run(&options.replay, &calls)?;
     let spheres = spheres::count(&calls);
     let mut tally = tally.lock().map_err(|_| "a thread failed")?;
@@ -241,7 +241,7 @@ fn summary(options: &Options, tally: &Tally, seconds: f64) -> bool {
     println!("agreed {} differed {}", tally.agreed, tally.differed);
     println!("bad calls {}", tally.bad_calls);
     for (number, count) in tally.numbers.iter().enumerate() {
-        let words = desk::record::words(number as u8);
+        let words = second_desk::record::words(number as u8);
         let lists = tally.lists[number];
         println!("answer {number:2}: {count:9} in {lists:7} lists  {words}");
     }

@@ -1,9 +1,9 @@
 //! Fires on pressurised vessels in a list of calls, by what the rule says.
 
 use crate::studies::number;
-use desk::Study;
-use desk::chance::{self, class::PRESSURISED_VESSEL};
-use desk::record::{self, outcome};
+use second_desk::Study;
+use second_desk::chance::{self, class::PRESSURISED_VESSEL};
+use second_desk::record::{self, outcome};
 
 /// What the rule says of such an effect.
 pub const WORDS: [&str; 4] = [

@@ -1,11 +1,11 @@
 //! Valid studies of all shapes, with values at and around the rules' limits.
 
 use crate::random::Random;
-use desk::chance;
-use desk::logarithm::THRESHOLDS;
-use desk::probit;
-use desk::record::{self, outcome};
-use desk::volume::{LEAST, MOST};
+use second_desk::chance;
+use second_desk::logarithm::THRESHOLDS;
+use second_desk::probit;
+use second_desk::record::{self, outcome};
+use second_desk::volume::{LEAST, MOST};
 use std::sync::OnceLock;
 
 /// A record: its kind byte and body.
