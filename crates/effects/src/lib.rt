@@ -21,6 +21,7 @@ use state::MOST_TARGETS;
 use state::record;
 use terms::class;
 use terms::outcome;
+use terms::seconds;
 
 // How many effects were taken, the least target that the next one may name, and the effects of the study so far that no rule judged.
 pub struct Taken {
@@ -157,7 +158,7 @@ fn fire_row(
     }
     if equipment::judged_in_fire(target.class, target.volume) {
         if target.class == class::PRESSURISED {
-            let chance = equipment::sphere(table, near, rows, 600, target.volume, q, d);
+            let chance = equipment::sphere(table, near, rows, seconds::LIMIT, target.volume, q, d);
             add_chance(b, i, known, chance, sums, facts);
             return 0;
         }

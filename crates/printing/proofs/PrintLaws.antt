@@ -14,20 +14,21 @@ use Rattle.model.specs.Format.{bytesOf}
 use Rattle.model.specs.Valid.{Valid}
 use Rattle.model.specs.Verdict.{Verdict, unclosed, closed, refused, cut, cutFirst, judge, judgeLeft, verdict}
 use Rattle.model.specs.Calls.{Call, piece, totals, target, Answer, tookPiece, gaveTotals, gaveTarget, noTotals, noTarget, totalsOf, targetReportOf, pieceNumber, pieceAnswer, totalsAnswer, targetAnswer, answer, joined, Bytes, Callable}
-use Rattle.model.specs.Machine.{State, readAll, fresh, totalsIn, targetIn, answerIn}
+use Rattle.model.specs.Machine.{State, readAll, numberAfter, placeAfter, fresh, totalsIn, targetIn, stateAfter, answerIn}
+use Rattle.model.specs.Runs.{none}
 use Rattle.model.proofs.ListLaws.{each-parts}
 use Rattle.model.proofs.ReadLaws.{read-append}
 use Rattle.model.proofs.CallLaws.{cuts-make-no-difference}
 use Rattle.model.proofs.Closing.{call-answered, closed-content, verdict-front, refusal-number}
 use Rattle.study.specs.declared.Study.{Study}
 use Rattle.study.specs.declared.pieces.Taken.{Taken}
-use Rattle.study.specs.View.{view}
+use Rattle.study.specs.View.{view, unview}
 use Rattle.study.specs.Runs.{Called, Ran}
 use Rattle.study.proofs.RunLaws.{ran-state, piece-read}
 use Rattle.lines.specs.Text.{refusedLine, targetLine}
 use Rattle.printing.specs.Report.{targetLines, closedLines}
 use Rattle.printing.specs.Lines.{linesOf, reportLines}
-use Rattle.printing.specs.Prints.{TakenAfter, nothing, last, refusalLine, Printed, Prints}
+use Rattle.printing.specs.Prints.{TakenAfter, nothing, last, refusalLine, Printed, Prints, Readable, EveryListRead}
 use Rattle.printing.proofs.ListLaws.{lines-closed, lines-refused, report-seven, report-other}
 
 -- targets with the same reports have the same lines
@@ -180,3 +181,14 @@ pub prints : Prints
 prints l t k y =
     let e = taken-text l t k y in
     record { report = λ c v q. e ∙ report-text l c v q; refusal = λ other. e ∙ refusal-text l (verdict l) y refl other }
+
+pub every-list-read : EveryListRead
+unfolding stateAfter answerIn joined
+every-list-read [] = record { taken = record { study = unview fresh; number = 0; place = 0 }; after = nothing refl refl }
+every-list-read (b ∷ l) =
+    let f : State = view (unview fresh) in
+    let s : State = readAll f (b ∷ l) in
+    record {
+      taken = record { study = unview s; number = numberAfter (f .core .reading .place) (length (b ∷ l)) (s .core .reading); place = placeAfter (s .core .reading) };
+      after = last {cs = []} (b ∷ l) (record { first = unview fresh; started = refl; calls = none }) (omega arith) (record { answer = refl; state = refl });
+    }

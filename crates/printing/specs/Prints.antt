@@ -38,6 +38,14 @@ pub record Printed (l : List ℕ) (text : List (List ℕ)) : Type 0 where
   pub report : (c : Content) → Valid c → l ≡ bytesOf c → text ≡ reportText c
   pub refusal : ((c : Content) → Valid c → l ≡ bytesOf c → ⊥) → text ≡ refusalLine (verdict l) (length l) ∷ []
 
+-- EveryListRead: there is no list of bytes that Prints says nothing of: each was read by some calls.
+pub record Readable (l : List ℕ) : Type 0 where
+  pub taken : Taken
+  pub after : TakenAfter l taken
+
+abbrev pub EveryListRead : Type 0
+EveryListRead = (l : List ℕ) → Readable l
+
 -- Prints: whatever bytes were read, wherever they were cut, this is the text whose lines `report_length` counts and `report_line` gives.
 abbrev pub Prints : Type 0
 Prints = (l : List ℕ) (t : Taken) → TakenAfter l t → Bytes l → Printed l (reportLines t)

@@ -1,6 +1,7 @@
 // What the rules of death and damage speak of: targets, and chances with their judgement.
 pub mod class;
 pub mod outcome;
+pub mod seconds;
 pub mod setting;
 
 // A chance in millionths, and whether a rule judged it: where none did, the chance is 0.
