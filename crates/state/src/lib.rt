@@ -9,6 +9,7 @@ pub const MOST_TARGETS: u16 = 256;
 // The widest fields come first, and the others fill whole words but for one, two or four bytes: what is left over is then copied in one step.
 
 // Where the reading stands.
+#[repr(C)]
 pub struct Reading {
     // bytes read so far
     pub place: u64,
@@ -25,6 +26,7 @@ pub struct Reading {
 }
 
 // What the records so far add up to.
+#[repr(C)]
 pub struct Counts {
     // sum of the leak frequencies
     pub leaks: u64,
@@ -36,6 +38,7 @@ pub struct Counts {
 }
 
 // Where in a tree the reading stands.
+#[repr(C)]
 pub struct Branch {
     // the leak's frequency
     pub leak: u64,
@@ -52,6 +55,7 @@ pub struct Branch {
 }
 
 // Totals of the study.
+#[repr(C)]
 pub struct Tally {
     pub kind0: u64,
     pub kind1: u64,
@@ -64,6 +68,7 @@ pub struct Tally {
 }
 
 // All of a study but its arrays.
+#[repr(C)]
 pub struct Core {
     pub reading: Reading,
     pub counts: Counts,
@@ -72,6 +77,7 @@ pub struct Core {
 }
 
 // What a study keeps of one target: its sum, its margin, and its facts packed with its mark on the domino list.
+#[repr(C)]
 pub struct Row {
     pub sum: u64,
     pub margin: u32,
@@ -79,6 +85,7 @@ pub struct Row {
 }
 
 // A report of the whole study. A refused one has 0 in every field but number and place.
+#[repr(C)]
 pub struct Totals {
     pub number: u8,
     pub place: u64,
@@ -91,6 +98,7 @@ pub struct Totals {
 }
 
 // A report of one target: its grade where it is a place of people (class 0), whether it is listed where it is equipment.
+#[repr(C)]
 pub struct TargetReport {
     pub number: u8,
     pub place: u64,
@@ -102,6 +110,7 @@ pub struct TargetReport {
 }
 
 // A report of the domino list: how many numbers stand at the front of the lent list.
+#[repr(C)]
 pub struct DominoReport {
     pub number: u8,
     pub place: u64,

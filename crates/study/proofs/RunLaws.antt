@@ -1,5 +1,5 @@
 -- What the contract of a call says, part by part, and the frame's theorems for the study's struct. Assumes nothing.
-use mathlib.Core.Path.{_≡_, refl, ap, ap₂}
+use mathlib.Core.Path.{_≡_, refl, _∙_, ap, ap₂}
 use mathlib.Core.List.{List}
 use Prim.Native.Nat.{ℕ}
 use lib.ListN.{length}
@@ -7,7 +7,7 @@ use Rattle.state.specs.declared.Totals.{Totals}
 use Rattle.state.specs.declared.TargetReport.{TargetReport}
 use Rattle.state.specs.declared.DominoReport.{DominoReport}
 use Rattle.model.specs.Calls.{Call, piece, totals, target, domino, Answer, tookPiece, gaveTotals, gaveTarget, gaveDomino}
-use Rattle.model.specs.Machine.{readAll, fresh, numberAfter, placeAfter, totalsIn, targetIn, dominoIn, listAfter, stateAfter, answerIn, stateAfterAll}
+use Rattle.model.specs.Machine.{State, readAll, fresh, numberAfter, placeAfter, totalsIn, targetIn, dominoIn, listAfter, stateAfter, answerIn, stateAfterAll}
 use Rattle.model.proofs.RunLaws as frame
 use Rattle.study.specs.declared.Study.{Study}
 use Rattle.study.specs.View.{view, unview}
@@ -17,10 +17,12 @@ use Rattle.study.proofs.ViewLaws.{view-is-whole}
 -- ---- one call: its contract, part by part, and back
 
 pub piece-called : {s u : Study} {b : List ℕ} {n p : ℕ} → view u ≡ readAll (view s) b
-    → n ≡ numberAfter (s .core .reading .place) (length b) (readAll (view s) b .core .reading) → p ≡ placeAfter (readAll (view s) b .core .reading)
+    → n ≡ numberAfter (s .core .reading .place) (length b) (u .core .reading) → p ≡ placeAfter (u .core .reading)
     → Called s (piece b) (tookPiece n p) u
 unfolding stateAfter answerIn
-piece-called e n p = record { answer = ap₂ tookPiece n p; state = e }
+piece-called {s} {b = b} e n p =
+    let number = n ∙ ap (λ (v : State). numberAfter (s .core .reading .place) (length b) (v .core .reading)) e in
+    record { answer = ap₂ tookPiece number (p ∙ ap (λ (v : State). placeAfter (v .core .reading)) e); state = e }
 
 pub totals-called : {s : Study} {r : Totals} → r ≡ totalsIn (s .core) → Called s totals (gaveTotals r) s
 unfolding stateAfter answerIn

@@ -11,6 +11,7 @@ mod whole;
 ghost use mathlib.Core.Path.{_≡_};
 ghost use Rattle.model.specs.Machine.{fresh};
 ghost use Rattle.study.specs.View.{view};
+pub use into::Answer;
 pub use pieces::Taken;
 use state::Branch;
 use state::Core;
@@ -23,6 +24,7 @@ use terms::outcome;
 use terms::setting;
 
 // A study being read, by value. No field is public: only a report shows a figure, and none before the end.
+#[repr(C)]
 pub struct Study {
     core: Core,
     // the bytes of the record that has begun
