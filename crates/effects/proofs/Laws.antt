@@ -9,22 +9,12 @@ use native.Mathlib.Numerals.{add-one}
 use lib.ListN.{take, drop}
 use lib.Seq.{getD-take}
 use Rattle.numeric.specs.Choice.{pick}
-use Rattle.log2.specs.Tables.{LogTables}
-use Rattle.probit.specs.Rows.{RowsReached}
-use Rattle.terms.specs.Scales.{Scales}
-use Rattle.terms.specs.Terms.{seconds}
-use Rattle.terms.proofs.ScaleLaws.{lent-is-standard}
-use Rattle.vulnerability.specs.Effect.{effectBy}
 use Rattle.state.specs.declared.Branch.{Branch}
 use Rattle.model.specs.Verdict.{field}
 use Rattle.model.specs.Machine.{upTo, most32, store, rowOf, rowAfter}
-use Rattle.effects.specs.Judging.{Judge, RightTables, judgedIn}
+use Rattle.effects.specs.Judging.{Judge, judgedIn}
 use Rattle.effects.specs.Effects.{Figures, figures, afterEffect, afterEffects, sound}
 use Rattle.effects.specs.Steps.{Taking, nextIn}
-
--- the right tables of the logarithm and of the probit are the right ones to judge by
-pub right-tables : (table near rows : List ℕ) → LogTables table near → RowsReached rows → RightTables table near rows
-right-tables table near rows t r = ap (λ (s : Scales). effectBy s seconds) (lent-is-standard table near rows t r)
 
 -- sixteen bytes have every field of an effect
 field-window : (l : List ℕ) (i n : ℕ) → i + n ≤ 16 → field (take 16 l) i n ≡ field l i n

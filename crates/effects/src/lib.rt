@@ -4,16 +4,14 @@ ghost use mathlib.Core.Bool.{true, false};
 ghost use mathlib.Core.Logic.{_⊎_};
 ghost use Prim.Native.Nat.{_+_, _-_, _/_, _<_, _≤_, min};
 ghost use lib.ListN.{length, getD};
-ghost use Rattle.terms.specs.Scales.{Scales};
 ghost use Rattle.terms.specs.Terms.{fireball, flashFire, people, atmospheric, pressurised, pipe, seconds};
-ghost use Rattle.vulnerability.specs.Effect.{effectBy};
+ghost use Rattle.vulnerability.specs.Effect.{effectOn};
 ghost use Rattle.numeric.specs.Choice.{ifEq};
 ghost use Rattle.model.specs.Bounds.{mostTargets};
 ghost use Rattle.model.specs.Format.{effectKind};
 ghost use Rattle.model.specs.Faults.{effectFault};
 ghost use Rattle.model.specs.Machine.{upTo, most32, most64, store, markedFacts};
 ghost use Rattle.numeric.specs.Share.{shareOf};
-ghost use Rattle.effects.specs.Judging.{byTables};
 ghost use Rattle.effects.specs.Effects.{figures, afterEffects, takenOf};
 ghost use Rattle.effects.specs.Steps.{Added, Taking, nextIn};
 use state::Branch;
@@ -129,9 +127,6 @@ fn as_kept(sum: u64) -> u64
 // An effect of a fire on a target that has a row, and whether no rule judged it. Where none has a rule the margin alone grows. Pressurised vessels have a
 // branch of their own, so that the rule that they alone have does not weigh on the others.
 fn fire_row(
-    table: &[u32; 256],
-    near: &[u8; 512],
-    rows: &[u32; 544],
     b: Branch,
     i: usize,
     q: u32,
@@ -141,7 +136,7 @@ fn fire_row(
     facts: &mut [u64; 256],
 ) -> u64
     requires { ⌜ (i < mostTargets) × (b .kind ≤ fireball) ⌝ }
-    ensures { λ r. ⌜ Added (byTables (now (table .entry)) (now (near .entry)) (now (rows .entry))) b i q d (now (sums .entry)) (now (margins .entry)) (now (facts .entry)) r (now (sums .exit)) (now (margins .exit)) (now (facts .exit)) ⌝ }
+    ensures { λ r. ⌜ Added (effectOn seconds) b i q d (now (sums .entry)) (now (margins .entry)) (now (facts .entry)) r (now (sums .exit)) (now (margins .exit)) (now (facts .exit)) ⌝ }
     ensures { λ r. ⌜ r ≤ 1 ⌝ }
 {
     add_margin(b, i, margins);
@@ -152,13 +147,13 @@ fn fire_row(
         return 0;
     }
     if burns(target.class) {
-        let chance = vulnerability::fire(table, near, rows, target, q, d);
+        let chance = vulnerability::fire(target, q, d);
         add_chance(b, i, known, chance, sums, facts);
         return 0;
     }
     if equipment::judged_in_fire(target.class, target.volume) {
         if target.class == class::PRESSURISED {
-            let chance = equipment::sphere(table, near, rows, seconds::LIMIT, target.volume, q, d);
+            let chance = equipment::sphere(seconds::LIMIT, target.volume, q, d);
             add_chance(b, i, known, chance, sums, facts);
             return 0;
         }
@@ -178,7 +173,7 @@ fn flash_row(
     facts: &mut [u64; 256],
 )
     requires { ⌜ (i < mostTargets) × (b .kind ≡ flashFire) ⌝ }
-    ensures { λ _. ⌜ ((s : Scales) → Added (effectBy s seconds) b i q d (now (sums .entry)) (now (margins .entry)) (now (facts .entry)) 0 (now (sums .exit)) (now (margins .exit)) (now (facts .exit))) ⌝ }
+    ensures { λ _. ⌜ Added (effectOn seconds) b i q d (now (sums .entry)) (now (margins .entry)) (now (facts .entry)) 0 (now (sums .exit)) (now (margins .exit)) (now (facts .exit)) ⌝ }
 {
     add_margin(b, i, margins);
     let known = facts[i];
@@ -192,9 +187,6 @@ fn flash_row(
 
 // That of an explosion.
 fn blast_row(
-    table: &[u32; 256],
-    near: &[u8; 512],
-    rows: &[u32; 544],
     b: Branch,
     i: usize,
     q: u32,
@@ -204,14 +196,14 @@ fn blast_row(
     facts: &mut [u64; 256],
 )
     requires { ⌜ (i < mostTargets) × (flashFire < b .kind) ⌝ }
-    ensures { λ _. ⌜ Added (byTables (now (table .entry)) (now (near .entry)) (now (rows .entry))) b i q d (now (sums .entry)) (now (margins .entry)) (now (facts .entry)) 0 (now (sums .exit)) (now (margins .exit)) (now (facts .exit)) ⌝ }
+    ensures { λ _. ⌜ Added (effectOn seconds) b i q d (now (sums .entry)) (now (margins .entry)) (now (facts .entry)) 0 (now (sums .exit)) (now (margins .exit)) (now (facts .exit)) ⌝ }
 {
     add_margin(b, i, margins);
     let known = facts[i];
     let sum = as_kept(sums[i]);
     let target = rows::unpack_facts(known);
     if b.kind == outcome::EXPLOSION {
-        let chance = vulnerability::blast(table, near, rows, target, q);
+        let chance = vulnerability::blast(target, q);
         add_chance(b, i, known, chance, sums, facts);
     }
 }
@@ -231,9 +223,6 @@ fn past_rows(targets: u16, kind: u8, next: u32, t: u16, q: u32, d: u16) -> Step
 
 // The effect that the bytes begin with, if it has no fault of its own, in an outcome of each form. Of the declared targets at most MOST_TARGETS have a row.
 fn fire(
-    table: &[u32; 256],
-    near: &[u8; 512],
-    rows: &[u32; 544],
     b: Branch,
     targets: u16,
     limit: u16,
@@ -245,13 +234,13 @@ fn fire(
 ) -> Step
     requires { ⌜ (limit ≡ min targets mostTargets) × (getD (now p) 0 0 ≡ effectKind) × (b .kind ≤ fireball) ⌝ }
     ensures { λ r. ⌜ (r .next ≡ nextIn targets b next (now (p .entry))) × (r .missed ≤ 1) ⌝ }
-    ensures { λ r. ⌜ Taking (byTables (now (table .entry)) (now (near .entry)) (now (rows .entry))) targets b next (now (p .entry)) (now (sums .entry)) (now (margins .entry)) (now (facts .entry)) (r .missed) (now (sums .exit)) (now (margins .exit)) (now (facts .exit)) ⌝ }
+    ensures { λ r. ⌜ Taking (effectOn seconds) targets b next (now (p .entry)) (now (sums .entry)) (now (margins .entry)) (now (facts .entry)) (r .missed) (now (sums .exit)) (now (margins .exit)) (now (facts .exit)) ⌝ }
 {
     let t = decoding::half_at_1(p);
     let q = decoding::word_at_3(p);
     let d = decoding::half_at_7(p);
     if faults::effect_fault(limit, b.kind, next, t, q, d) == 0 {
-        let missed = fire_row(table, near, rows, b, t as usize, q, d, sums, margins, facts);
+        let missed = fire_row(b, t as usize, q, d, sums, margins, facts);
         return Step {
             next: (t as u32) + 1,
             missed: missed,
@@ -272,7 +261,7 @@ fn flash(
 ) -> Step
     requires { ⌜ (limit ≡ min targets mostTargets) × (getD (now p) 0 0 ≡ effectKind) × (b .kind ≡ flashFire) ⌝ }
     ensures { λ r. ⌜ (r .next ≡ nextIn targets b next (now (p .entry))) × (r .missed ≤ 1) ⌝ }
-    ensures { λ r. ⌜ ((s : Scales) → Taking (effectBy s seconds) targets b next (now (p .entry)) (now (sums .entry)) (now (margins .entry)) (now (facts .entry)) (r .missed) (now (sums .exit)) (now (margins .exit)) (now (facts .exit))) ⌝ }
+    ensures { λ r. ⌜ Taking (effectOn seconds) targets b next (now (p .entry)) (now (sums .entry)) (now (margins .entry)) (now (facts .entry)) (r .missed) (now (sums .exit)) (now (margins .exit)) (now (facts .exit)) ⌝ }
 {
     let t = decoding::half_at_1(p);
     let q = decoding::word_at_3(p);
@@ -288,9 +277,6 @@ fn flash(
 }
 
 fn blast(
-    table: &[u32; 256],
-    near: &[u8; 512],
-    rows: &[u32; 544],
     b: Branch,
     targets: u16,
     limit: u16,
@@ -302,13 +288,13 @@ fn blast(
 ) -> Step
     requires { ⌜ (limit ≡ min targets mostTargets) × (getD (now p) 0 0 ≡ effectKind) × (flashFire < b .kind) ⌝ }
     ensures { λ r. ⌜ (r .next ≡ nextIn targets b next (now (p .entry))) × (r .missed ≤ 1) ⌝ }
-    ensures { λ r. ⌜ Taking (byTables (now (table .entry)) (now (near .entry)) (now (rows .entry))) targets b next (now (p .entry)) (now (sums .entry)) (now (margins .entry)) (now (facts .entry)) (r .missed) (now (sums .exit)) (now (margins .exit)) (now (facts .exit)) ⌝ }
+    ensures { λ r. ⌜ Taking (effectOn seconds) targets b next (now (p .entry)) (now (sums .entry)) (now (margins .entry)) (now (facts .entry)) (r .missed) (now (sums .exit)) (now (margins .exit)) (now (facts .exit)) ⌝ }
 {
     let t = decoding::half_at_1(p);
     let q = decoding::word_at_3(p);
     let d = decoding::half_at_7(p);
     if faults::effect_fault(limit, b.kind, next, t, q, d) == 0 {
-        blast_row(table, near, rows, b, t as usize, q, d, sums, margins, facts);
+        blast_row(b, t as usize, q, d, sums, margins, facts);
         return Step {
             next: (t as u32) + 1,
             missed: 0,
@@ -319,9 +305,6 @@ fn blast(
 
 // The kind of the outcome is asked first: it is the same for all effects of a loop.
 fn take_one(
-    table: &[u32; 256],
-    near: &[u8; 512],
-    rows: &[u32; 544],
     b: Branch,
     targets: u16,
     limit: u16,
@@ -333,40 +316,16 @@ fn take_one(
 ) -> Step
     requires { ⌜ (limit ≡ min targets mostTargets) ⌝ }
     ensures { λ r. ⌜ (r .next ≡ nextIn targets b next (now (p .entry))) × (r .missed ≤ 1) ⌝ }
-    ensures { λ r. ⌜ Taking (byTables (now (table .entry)) (now (near .entry)) (now (rows .entry))) targets b next (now (p .entry)) (now (sums .entry)) (now (margins .entry)) (now (facts .entry)) (r .missed) (now (sums .exit)) (now (margins .exit)) (now (facts .exit)) ⌝ }
+    ensures { λ r. ⌜ Taking (effectOn seconds) targets b next (now (p .entry)) (now (sums .entry)) (now (margins .entry)) (now (facts .entry)) (r .missed) (now (sums .exit)) (now (margins .exit)) (now (facts .exit)) ⌝ }
 {
     if decoding::kind(p) == record::EFFECT {
         if b.kind <= outcome::FIREBALL {
-            return fire(
-                table,
-                near,
-                rows,
-                b,
-                targets,
-                limit,
-                next,
-                p,
-                sums,
-                margins,
-                facts,
-            );
+            return fire(b, targets, limit, next, p, sums, margins, facts);
         }
         if b.kind == outcome::FLASH_FIRE {
             return flash(b, targets, limit, next, p, sums, margins, facts);
         }
-        return blast(
-            table,
-            near,
-            rows,
-            b,
-            targets,
-            limit,
-            next,
-            p,
-            sums,
-            margins,
-            facts,
-        );
+        return blast(b, targets, limit, next, p, sums, margins, facts);
     }
     Step { next: 0, missed: 0 }
 }
@@ -381,9 +340,6 @@ fn unjudged_after(before: u32, missed: u64) -> u32
 
 // Takes the effects that the bytes begin with, in an outcome's branch, up to the first that is unsound.
 pub fn take_effects(
-    table: &[u32; 256],
-    near: &[u8; 512],
-    rows: &[u32; 544],
     b: Branch,
     targets: u16,
     most: u32,
@@ -393,8 +349,8 @@ pub fn take_effects(
     margins: &mut [u32; 256],
     facts: &mut [u64; 256],
 ) -> Taken
-    ensures { λ r. ⌜ r .count ≡ takenOf (byTables (now (table .entry)) (now (near .entry)) (now (rows .entry))) targets b (figures (b .next) before (now (sums .entry)) (now (margins .entry)) (now (facts .entry))) (now (bytes .entry)) (min most ((length (now (bytes .entry)) - 7) / 9)) ⌝ }
-    ensures { λ r. ⌜ figures (r .next) (r .unjudged) (now (sums .exit)) (now (margins .exit)) (now (facts .exit)) ≡ afterEffects (byTables (now (table .entry)) (now (near .entry)) (now (rows .entry))) b (figures (b .next) before (now (sums .entry)) (now (margins .entry)) (now (facts .entry))) (now (bytes .entry)) (r .count) ⌝ }
+    ensures { λ r. ⌜ r .count ≡ takenOf (effectOn seconds) targets b (figures (b .next) before (now (sums .entry)) (now (margins .entry)) (now (facts .entry))) (now (bytes .entry)) (min most ((length (now (bytes .entry)) - 7) / 9)) ⌝ }
+    ensures { λ r. ⌜ figures (r .next) (r .unjudged) (now (sums .exit)) (now (margins .exit)) (now (facts .exit)) ≡ afterEffects (effectOn seconds) b (figures (b .next) before (now (sums .entry)) (now (margins .entry)) (now (facts .entry))) (now (bytes .entry)) (r .count) ⌝ }
 {
     let top = reach(most, bytes.len());
     let limit = with_row(targets);
@@ -404,19 +360,7 @@ pub fn take_effects(
     while count < top {
         let at = count * 9;
         let p = &bytes[at..at + 16];
-        let s = take_one(
-            table,
-            near,
-            rows,
-            b,
-            targets,
-            limit,
-            next,
-            p,
-            sums,
-            margins,
-            facts,
-        );
+        let s = take_one(b, targets, limit, next, p, sums, margins, facts);
         if s.next != 0 {
             next = s.next;
             missed += s.missed;

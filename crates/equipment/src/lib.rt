@@ -1,11 +1,11 @@
-// The chance of damage to equipment. The caller lends the tables: the logarithm's thresholds and near steps, and the probit's rows.
+// The chance of damage to equipment.
 ghost use mathlib.Core.Path.{_≡_};
 ghost use mathlib.Core.Bool.{true, false};
 ghost use Prim.Native.Nat.{_+_, _*_, _/_, _^_, _<_, _≤_};
 ghost use Rattle.numeric.specs.Choice.{ifEq, ifLt};
-ghost use Rattle.log2.specs.Tables.{logBy};
-ghost use Rattle.probit.specs.Rows.{chanceBy};
-ghost use Rattle.terms.specs.Lent.{lent};
+ghost use Rattle.log2.specs.Logarithm.{logarithm};
+ghost use Rattle.probit.specs.Chance.{chanceOf};
+ghost use Rattle.terms.specs.Scales.{standard};
 ghost use Rattle.terms.specs.Terms.{pressurised};
 ghost use Rattle.equipment.specs.Damage.{blastRowOf, blastProbitBy, blastDamageBy, heatProbitBy, heatDamageBy, sphereProbitBy, fireDamageBy, fireJudged};
 use terms::class;
@@ -50,64 +50,50 @@ fn blast_row(class: u8) -> BlastRow
 }
 
 // factor × L(n) × 693,147 / divisor, rounded down: the logarithm's part of a probit. It is below 2^55 with any tables.
-fn scaled_log(table: &[u32; 256], near: &[u8; 512], factor: u64, n: u32, divisor: u64) -> u64
+fn scaled_log(factor: u64, n: u32, divisor: u64) -> u64
     requires { ⌜ (factor < 2 ^ 22) × (0 < divisor) ⌝ }
-    ensures { λ r. ⌜ r ≡ factor * logBy (now (table .entry)) (now (near .entry)) n * 693147 / divisor ⌝ }
+    ensures { λ r. ⌜ r ≡ factor * logarithm n * 693147 / divisor ⌝ }
     ensures { λ r. ⌜ r < 2 ^ 55 ⌝ }
 {
-    let log = log2::log256(table, near, n) as u64;
+    let log = log2::l(n) as u64;
     factor * log * 693_147 / divisor
 }
 
 // The chance by the probit of an explosion.
-fn blast_chance(
-    table: &[u32; 256],
-    near: &[u8; 512],
-    rows: &[u32; 544],
-    row: BlastRow,
-    pa: u32,
-) -> u32
-    ensures { λ r. ⌜ r ≡ chanceBy (now (rows .entry)) (blastProbitBy (lent (now (table .entry)) (now (near .entry)) (now (rows .entry))) row pa) ⌝ }
+fn blast_chance(row: BlastRow, pa: u32) -> u32
+    ensures { λ r. ⌜ r ≡ chanceOf (blastProbitBy standard row pa) ⌝ }
 {
-    let log = scaled_log(table, near, row.factor as u64, pa, 25_600);
-    probit::chance(rows, log, row.constant)
+    let log = scaled_log(row.factor as u64, pa, 25_600);
+    probit::chance(log, row.constant)
 }
 
 // Explosion: overpressure in Pa on equipment of a class.
-pub fn blast(table: &[u32; 256], near: &[u8; 512], rows: &[u32; 544], class: u8, pa: u32) -> u32
-    ensures { λ r. ⌜ r ≡ blastDamageBy (lent (now (table .entry)) (now (near .entry)) (now (rows .entry))) (blastRowOf class) pa ⌝ }
+pub fn blast(class: u8, pa: u32) -> u32
+    ensures { λ r. ⌜ r ≡ blastDamageBy standard (blastRowOf class) pa ⌝ }
 {
     let row = blast_row(class);
     if pa < row.threshold {
         return 0;
     }
-    blast_chance(table, near, rows, row, pa)
+    blast_chance(row, pa)
 }
 
 // The chance by the probit of a fire.
-fn heat_chance(table: &[u32; 256], near: &[u8; 512], rows: &[u32; 544], q: u32, volume: u32) -> u32
-    ensures { λ r. ⌜ r ≡ chanceBy (now (rows .entry)) (heatProbitBy (lent (now (table .entry)) (now (near .entry)) (now (rows .entry))) q volume) ⌝ }
+fn heat_chance(q: u32, volume: u32) -> u32
+    ensures { λ r. ⌜ r ≡ chanceOf (heatProbitBy standard q volume) ⌝ }
 {
-    let heat = scaled_log(table, near, 2_083_416, q, 256_000_000);
+    let heat = scaled_log(2_083_416, q, 256_000_000);
     let size = 4_925_949 * (volume as u64) / 100_000;
-    probit::chance(rows, heat + size, 20_094_547)
+    probit::chance(heat + size, 20_094_547)
 }
 
 // Fire: heat in W/m² on a vessel or pipe at atmospheric pressure. The time that it has to exceed goes by the clock.
-pub fn heat(
-    table: &[u32; 256],
-    near: &[u8; 512],
-    rows: &[u32; 544],
-    limit: u16,
-    volume: u32,
-    q: u32,
-    duration: u16,
-) -> u32
-    ensures { λ r. ⌜ r ≡ heatDamageBy (lent (now (table .entry)) (now (near .entry)) (now (rows .entry))) limit volume q duration ⌝ }
+pub fn heat(limit: u16, volume: u32, q: u32, duration: u16) -> u32
+    ensures { λ r. ⌜ r ≡ heatDamageBy standard limit volume q duration ⌝ }
 {
     if 15_000 < q {
         if limit < duration {
-            return heat_chance(table, near, rows, q, volume);
+            return heat_chance(q, volume);
         }
         return 0;
     }
@@ -155,31 +141,17 @@ fn sphere_size(root: u32) -> u32
 }
 
 // The chance by the probit of a fire for a pressurised vessel.
-fn sphere_chance(
-    table: &[u32; 256],
-    near: &[u8; 512],
-    rows: &[u32; 544],
-    q: u32,
-    volume: u32,
-) -> u32
-    ensures { λ r. ⌜ r ≡ chanceBy (now (rows .entry)) (sphereProbitBy (lent (now (table .entry)) (now (near .entry)) (now (rows .entry))) q volume) ⌝ }
+fn sphere_chance(q: u32, volume: u32) -> u32
+    ensures { λ r. ⌜ r ≡ chanceOf (sphereProbitBy standard q volume) ⌝ }
 {
-    let heat = scaled_log(table, near, 1_749_109, q, 256_000_000);
+    let heat = scaled_log(1_749_109, q, 256_000_000);
     let size = sphere_size(volumes::root(volume));
-    probit::chance(rows, 457_583 + heat, size)
+    probit::chance(457_583 + heat, size)
 }
 
 // Fire: heat in W/m² on a pressurised vessel. The root of its volume is looked up past both lines alone.
-pub fn sphere(
-    table: &[u32; 256],
-    near: &[u8; 512],
-    rows: &[u32; 544],
-    limit: u16,
-    volume: u32,
-    q: u32,
-    duration: u16,
-) -> u32
-    ensures { λ r. ⌜ r ≡ fireDamageBy (lent (now (table .entry)) (now (near .entry)) (now (rows .entry))) limit pressurised volume q duration .chance ⌝ }
+pub fn sphere(limit: u16, volume: u32, q: u32, duration: u16) -> u32
+    ensures { λ r. ⌜ r ≡ fireDamageBy standard limit pressurised volume q duration .chance ⌝ }
 {
     if q <= 40_000 {
         return 0;
@@ -188,7 +160,7 @@ pub fn sphere(
         return 0;
     }
     if has_root(volume) {
-        return sphere_chance(table, near, rows, q, volume);
+        return sphere_chance(q, volume);
     }
     0
 }

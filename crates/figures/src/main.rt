@@ -27,10 +27,10 @@ fn branches(frequency: u64, chance: u32) {
 }
 
 // n; L(n).
-fn logarithm(table: &[u32; 256], near: &[u8; 512], n: u32) {
+fn logarithm(n: u32) {
     word(b"logarithm");
     number(n as u64);
-    number(log2::log256(table, near, n) as u64);
+    number(log2::l(n) as u64);
     word(b"\n");
 }
 
@@ -44,44 +44,37 @@ fn people(kind: u8, setting: u8, intensity: u32, duration: u16) {
 }
 
 // A place of people: setting, heat, duration in a pool fire; chance of death.
-fn fires(
-    table: &[u32; 256],
-    near: &[u8; 512],
-    rows: &[u32; 544],
-    setting: u8,
-    q: u32,
-    duration: u16,
-) {
+fn fires(setting: u8, q: u32, duration: u16) {
     let target = Target {
         class: class::PEOPLE,
         setting: setting,
         volume: 0,
     };
     people(outcome::POOL_FIRE, setting, q, duration);
-    number(vulnerability::fire(table, near, rows, target, q, duration) as u64);
+    number(vulnerability::fire(target, q, duration) as u64);
     word(b"\n");
 }
 
 // Setting and overpressure in an explosion; chance of death.
-fn deaths(table: &[u32; 256], near: &[u8; 512], rows: &[u32; 544], setting: u8, pa: u32) {
+fn deaths(setting: u8, pa: u32) {
     let target = Target {
         class: class::PEOPLE,
         setting: setting,
         volume: 0,
     };
     people(outcome::EXPLOSION, setting, pa, 0);
-    number(vulnerability::blast(table, near, rows, target, pa) as u64);
+    number(vulnerability::blast(target, pa) as u64);
     word(b"\n");
 }
 
 // Class and overpressure; chance of damage, and whether a leak of 10^7 units puts the equipment on the domino list.
-fn blasts(table: &[u32; 256], near: &[u8; 512], rows: &[u32; 544], class: u8, pa: u32) {
+fn blasts(class: u8, pa: u32) {
     let target = Target {
         class: class,
         setting: setting::INDIVIDUAL,
         volume: 0,
     };
-    let chance = vulnerability::blast(table, near, rows, target, pa);
+    let chance = vulnerability::blast(target, pa);
     word(b"equipment");
     number(class as u64);
     number(pa as u64);
@@ -93,14 +86,7 @@ fn blasts(table: &[u32; 256], near: &[u8; 512], rows: &[u32; 544], class: u8, pa
 }
 
 // A pressurised vessel: volume, heat, duration in a pool fire; chance of damage, or that no rule judges it.
-fn spheres(
-    table: &[u32; 256],
-    near: &[u8; 512],
-    rows: &[u32; 544],
-    volume: u32,
-    q: u32,
-    duration: u16,
-) {
+fn spheres(volume: u32, q: u32, duration: u16) {
     let target = Target {
         class: class::PRESSURISED,
         setting: setting::INDIVIDUAL,
@@ -110,7 +96,7 @@ fn spheres(
     number(volume as u64);
     number(q as u64);
     number(duration as u64);
-    number(vulnerability::fire(table, near, rows, target, q, duration) as u64);
+    number(vulnerability::fire(target, q, duration) as u64);
     if !equipment::judged_in_fire(class::PRESSURISED, volume) {
         word(b" unjudged");
     }
@@ -118,54 +104,51 @@ fn spheres(
 }
 
 // People in a fire: one heat in each setting, and both sides of 35,000 W/m².
-fn all_fires(table: &[u32; 256], near: &[u8; 512], rows: &[u32; 544]) {
-    fires(table, near, rows, setting::INDIVIDUAL, 12_500, 20);
-    fires(table, near, rows, setting::OUTDOORS, 12_500, 20);
-    fires(table, near, rows, setting::INDOORS, 12_500, 20);
-    fires(table, near, rows, setting::INDIVIDUAL, 34_999, 20);
-    fires(table, near, rows, setting::INDIVIDUAL, 35_000, 20);
+fn all_fires() {
+    fires(setting::INDIVIDUAL, 12_500, 20);
+    fires(setting::OUTDOORS, 12_500, 20);
+    fires(setting::INDOORS, 12_500, 20);
+    fires(setting::INDIVIDUAL, 34_999, 20);
+    fires(setting::INDIVIDUAL, 35_000, 20);
 }
 
 // Explosions: people indoors, and equipment.
-fn all_blasts(table: &[u32; 256], near: &[u8; 512], rows: &[u32; 544]) {
-    deaths(table, near, rows, setting::INDOORS, 9_999);
-    deaths(table, near, rows, setting::INDOORS, 10_000);
-    deaths(table, near, rows, setting::INDOORS, 30_000);
-    blasts(table, near, rows, class::ATMOSPHERIC, 67_000);
-    blasts(table, near, rows, class::ATMOSPHERIC, 70_000);
-    blasts(table, near, rows, class::PRESSURISED, 29_999);
-    blasts(table, near, rows, class::PRESSURISED, 30_000);
+fn all_blasts() {
+    deaths(setting::INDOORS, 9_999);
+    deaths(setting::INDOORS, 10_000);
+    deaths(setting::INDOORS, 30_000);
+    blasts(class::ATMOSPHERIC, 67_000);
+    blasts(class::ATMOSPHERIC, 70_000);
+    blasts(class::PRESSURISED, 29_999);
+    blasts(class::PRESSURISED, 30_000);
 }
 
 // Pressurised vessels in a fire: both sides of 40,000 W/m², of 600 s, of the volumes that are judged, and of a step of K.
-fn all_spheres(table: &[u32; 256], near: &[u8; 512], rows: &[u32; 544]) {
-    spheres(table, near, rows, 1, 40_000, 601);
-    spheres(table, near, rows, 1, 40_001, 601);
-    spheres(table, near, rows, 1, 60_000, 600);
-    spheres(table, near, rows, 1, 60_000, 601);
-    spheres(table, near, rows, 100, 500_000, 600);
-    spheres(table, near, rows, 100, 500_000, 601);
-    spheres(table, near, rows, 0, 1_000_000, 601);
-    spheres(table, near, rows, 1, 1_000_000, 601);
-    spheres(table, near, rows, 10_000, 1_000_000, 601);
-    spheres(table, near, rows, 10_001, 1_000_000, 601);
-    spheres(table, near, rows, 10_000, 40_001, 601);
-    spheres(table, near, rows, 9_823, 2_000_000, 601);
-    spheres(table, near, rows, 9_824, 2_000_000, 601);
-    spheres(table, near, rows, 0, 0, 1);
-    spheres(table, near, rows, 1, 0, 1);
+fn all_spheres() {
+    spheres(1, 40_000, 601);
+    spheres(1, 40_001, 601);
+    spheres(1, 60_000, 600);
+    spheres(1, 60_000, 601);
+    spheres(100, 500_000, 600);
+    spheres(100, 500_000, 601);
+    spheres(0, 1_000_000, 601);
+    spheres(1, 1_000_000, 601);
+    spheres(10_000, 1_000_000, 601);
+    spheres(10_001, 1_000_000, 601);
+    spheres(10_000, 40_001, 601);
+    spheres(9_823, 2_000_000, 601);
+    spheres(9_824, 2_000_000, 601);
+    spheres(0, 0, 1);
+    spheres(1, 0, 1);
 }
 
 fn main() {
-    let table = log2::thresholds();
-    let near = log2::near_steps();
-    let rows = probit::rows();
     branches(1, 500_000);
     branches(10_000_000_000_000, 999_999);
-    logarithm(&table, &near, 1);
-    logarithm(&table, &near, 2);
-    logarithm(&table, &near, 3);
-    all_fires(&table, &near, &rows);
-    all_blasts(&table, &near, &rows);
-    all_spheres(&table, &near, &rows);
+    logarithm(1);
+    logarithm(2);
+    logarithm(3);
+    all_fires();
+    all_blasts();
+    all_spheres();
 }

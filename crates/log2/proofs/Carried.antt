@@ -1,4 +1,4 @@
--- What lent tables give is L, where they are the right ones. Assumes nothing.
+-- What the tables give is L. Assumes nothing.
 use mathlib.Core.Path.{_≡_, refl, sym, _∙_}
 use mathlib.Core.List.{List}
 use Prim.Native.Nat.{ℕ, _+_, _-_, _*_, _/_, _%_, _^_, _<_, _≤_}
@@ -9,9 +9,9 @@ use lib.Count.{leadingZeros}
 use Rattle.numeric.specs.Choice.{ifLt}
 use Rattle.numeric.proofs.ChoiceLaws.{lt-case, ge-case}
 use Rattle.log2.specs.Logarithm.{logarithm}
-use Rattle.log2.specs.Tables.{NearStep, NearSteps, LogTables, stepBy, logBy, LogByTables}
-use Rattle.log2.proofs.Laws.{logarithm-small, logarithm-large, log-scaled, Scaled, scaled}
-use Rattle.log2.proofs.TableSteps.{at-near, at-before}
+use Rattle.log2.specs.Tables.{NearStep, NearSteps, LogTables, stepBy, thresholds, nearSteps, RightTables}
+use Rattle.log2.proofs.Laws.{log-scaled, Scaled, scaled}
+use Rattle.log2.proofs.TableSteps.{thresholds-at, near-steps-at, at-near, at-before}
 
 near-at : (l : List ℕ) (b : ℕ) → NearSteps l → b < 512 → NearStep b (getD l b 0)
 unfolding NearSteps
@@ -37,13 +37,11 @@ module _ (t l : List ℕ) (n z : ℕ) where
           let f : _≡_ {A = ℕ} 1 (ifLt m (getD t g 0) 1 0) = lt-case _ _ _ _ (omega arith) refl in
           rw (← f) (log-scaled n _ z _ (q .few) refl (at-before t _ _ _ (h .thresholds) s (omega (arith, q .low)) (omega (arith, q .low)) (omega arith)) ∙ omega (arith, s .first))
 
-pub log-by-tables : LogByTables
-unfolding logBy
-log-by-tables t l h n = go (decLe 2 n) (decLe (2 ^ 32) n)
-  where
-    go : Dec (2 ≤ n) → Dec (2 ^ 32 ≤ n) → logBy t l n ≡ logarithm n
-    go (no d) w = sym (lt-case _ _ _ _ (omega arith) (logarithm-small n (omega arith)))
-    go (yes d) (yes w) = sym (ge-case _ _ _ _ d (ge-case _ _ _ _ w (logarithm-large n w)))
-    go (yes d) (no w) =
-        let q = scaled n (omega arith) (omega arith) in
-        sym (ge-case _ _ _ _ d (lt-case _ _ _ _ (omega arith) (step-of t l n (leadingZeros 32 n) h q (omega (arith, q .fits)))))
+pub right-tables : RightTables
+right-tables = record { thresholds = thresholds-at thresholds refl tt; near = near-steps-at nearSteps refl tt }
+
+-- so the step of a number's mantissa is L
+pub log-by-step : (n : ℕ) → 0 < n → n < 2 ^ 32 → stepBy thresholds nearSteps ((31 - leadingZeros 32 n) * 256) (n * 2 ^ leadingZeros 32 n) ≡ logarithm n
+log-by-step n h w =
+    let q = scaled n h w in
+    sym (step-of thresholds nearSteps n (leadingZeros 32 n) right-tables q (omega (arith, q .fits)))

@@ -1,18 +1,18 @@
-// The chance of death at a place of people. The caller lends the tables: the logarithm's thresholds and near steps, and the probit's rows.
+// The chance of death at a place of people.
 ghost use mathlib.Core.Path.{_≡_};
 ghost use Prim.Native.Nat.{_+_, _*_, _/_, min};
-ghost use Rattle.log2.specs.Tables.{logBy};
-ghost use Rattle.probit.specs.Rows.{chanceBy};
-ghost use Rattle.terms.specs.Lent.{lent};
+ghost use Rattle.log2.specs.Logarithm.{logarithm};
+ghost use Rattle.probit.specs.Chance.{chanceOf};
+ghost use Rattle.terms.specs.Scales.{standard};
 ghost use Rattle.people.specs.Death.{fireProbitBy, settingShare, fireDeathBy, flashDeath, blastDeath};
 use terms::setting;
 
 // (4 L(Q) + 3 L(t)) × 693,147 / 300, rounded down.
-fn dose(table: &[u32; 256], near: &[u8; 512], q: u32, t: u32) -> u64
-    ensures { λ r. ⌜ r ≡ (4 * logBy (now (table .entry)) (now (near .entry)) q + 3 * logBy (now (table .entry)) (now (near .entry)) t) * 693147 / 300 ⌝ }
+fn dose(q: u32, t: u32) -> u64
+    ensures { λ r. ⌜ r ≡ (4 * logarithm q + 3 * logarithm t) * 693147 / 300 ⌝ }
 {
-    let heat = log2::log256(table, near, q) as u64;
-    let time = log2::log256(table, near, t) as u64;
+    let heat = log2::l(q) as u64;
+    let time = log2::l(t) as u64;
     (4 * heat + 3 * time) * 693_147 / 300
 }
 
@@ -33,31 +33,15 @@ fn least(x: u16, y: u16) -> u32
 }
 
 // The chance by the probit of a fire.
-fn by_probit(
-    table: &[u32; 256],
-    near: &[u8; 512],
-    rows: &[u32; 544],
-    constant: u32,
-    q: u32,
-    t: u32,
-) -> u32
-    ensures { λ r. ⌜ r ≡ chanceBy (now (rows .entry)) (fireProbitBy (lent (now (table .entry)) (now (near .entry)) (now (rows .entry))) constant q t) ⌝ }
+fn by_probit(constant: u32, q: u32, t: u32) -> u32
+    ensures { λ r. ⌜ r ≡ chanceOf (fireProbitBy standard constant q t) ⌝ }
 {
-    probit::chance(rows, dose(table, near, q, t), constant)
+    probit::chance(dose(q, t), constant)
 }
 
 // Fire: heat in W/m² for a duration. The longest time that counts and the probit's constant go by the clock.
-pub fn fire(
-    table: &[u32; 256],
-    near: &[u8; 512],
-    rows: &[u32; 544],
-    longest: u16,
-    constant: u32,
-    setting: u8,
-    q: u32,
-    duration: u16,
-) -> u32
-    ensures { λ r. ⌜ r ≡ fireDeathBy (lent (now (table .entry)) (now (near .entry)) (now (rows .entry))) longest constant setting q duration ⌝ }
+pub fn fire(longest: u16, constant: u32, setting: u8, q: u32, duration: u16) -> u32
+    ensures { λ r. ⌜ r ≡ fireDeathBy standard longest constant setting q duration ⌝ }
 {
     if 35_000 <= q {
         return 1_000_000;
@@ -69,7 +53,7 @@ pub fn fire(
         return 0;
     }
     let t = least(duration, longest);
-    let chance = by_probit(table, near, rows, constant, q, t);
+    let chance = by_probit(constant, q, t);
     in_setting(setting, chance)
 }
 

@@ -16,7 +16,7 @@ use borrow.Author.Tests.{lt-ltb, le-ltb, le-leb, lt-leb}
 use Rattle.numeric.specs.Choice.{pick}
 use Rattle.numeric.proofs.TableLaws.{both, both-left, both-right, every, entry, getD-entry, at, rising}
 use Rattle.probit.specs.Table.{Row, rowsFrom, wholePercents, tenthsOfPercent, probits, probitTable}
-use Rattle.probit.specs.Rows.{FirstRows, lastChance, LastReached, RowsReached, chanceBy, ChanceByRows}
+use Rattle.probit.specs.Rows.{FirstRows, lastChance, LastReached, RowsReached, rows, RightRows}
 use Rattle.probit.specs.Chance.{greatestChance, chanceOf, ChanceRule}
 
 -- a difference of two naturals, by its sign
@@ -42,15 +42,6 @@ chance-negative k = none-negative probitTable k
 chance-of-zero : chanceOf (pos 0) ≡ 0
 unfolding chanceOf probitTable greatestChance
 chance-of-zero = refl
-
--- what a table gives for a difference
-pub chance-difference : (l : List ℕ) (a b : ℕ) → getD l (min ((a - (b + 2660000)) / 10000) 543) 0 ≡ chanceBy l (pos a -ℤ pos b)
-unfolding chanceBy
-chance-difference l a b = go (decLe b a)
-  where
-    go : Dec (b ≤ a) → getD l (min ((a - (b + 2660000)) / 10000) 543) 0 ≡ chanceBy l (pos a -ℤ pos b)
-    go (yes h) = let e : a - (b + 2660000) ≡ a - b - 2660000 = omega arith in rw (difference-pos a b h, e) refl
-    go (no h) = let e : a - (b + 2660000) ≡ 0 = omega arith in rw (difference-neg a b (omega arith), e) refl
 
 -- the rows of two lists joined
 chance-append : (a b : List Row) (y : ℕ) → greatestChance (a ++ b) (pos y) ≡ max (greatestChance a (pos y)) (greatestChance b (pos y))
@@ -226,17 +217,36 @@ rows-found y i n f e =
       beyond = λ k a b. omega (arith, f .beyond k a b, row-range k b);
     }
 
+-- the entries from a to b, and not b, are x
+abbrev pub alikeAt : ℕ → ℕ → ℕ → ℕ → ℕ → Bool
+alikeAt a b x i v = pick (ltb i a) true (pick (leb b i) true (eqb v x))
+
+pub alike : (a b x : ℕ) → b ≤ 544 → T (every (alikeAt a b x) 0 rows) → (i : ℕ) → a ≤ i → i < b → x ≡ getD rows (min i 543) 0
+alike a b x w t i l h =
+    let e : T (alikeAt a b x i (entry rows i)) = at (alikeAt a b x) rows t i (omega arith) in
+    let f : T (eqb (entry rows i) x) = rw (le-ltb i a l, lt-leb b i h) at e in
+    let m : i ≡ min i 543 = omega arith in
+    sym (eqb→eq _ _ f) ∙ sym (getD-entry rows i) ∙ ap (λ (k : ℕ). getD rows k 0) m
+
+pub right-rows : RightRows
+right-rows = rows-at rows refl tt
+
 -- the entry of a probit's hundredth is its chance
-chance-found : (l : List ℕ) (y i : ℕ) → RowsReached l → i ≡ min ((y - 2660000) / 10000) 543 → getD l i 0 ≡ chanceOf (pos y)
+chance-found : (y i : ℕ) → i ≡ min ((y - 2660000) / 10000) 543 → getD rows i 0 ≡ chanceOf (pos y)
 unfolding RowsReached
-chance-found l y i t e =
-    let r : LastReached (266 + i) (getD l i 0) = t i (omega arith) in
+chance-found y i e =
+    let r : LastReached (266 + i) (getD rows i 0) = right-rows i (omega arith) in
     r .same ∙ row-chance (r .count) (r .rows .within) ∙ sym (chance-of-rows y (r .count) (rows-found y i (r .count) (r .rows) e))
 
-pub chance-by-rows : ChanceByRows
-unfolding chanceBy
-chance-by-rows l t (pos y) = chance-found l y _ t refl
-chance-by-rows l t (negsuc y) = chance-found l 0 0 t refl ∙ chance-of-zero ∙ sym (chance-negative y)
+-- also of a probit that is a difference, and may be negative
+pub chance-difference : (a b : ℕ) → getD rows (min ((a - (b + 2660000)) / 10000) 543) 0 ≡ chanceOf (pos a -ℤ pos b)
+chance-difference a b = go (decLe b a)
+  where
+    go : Dec (b ≤ a) → getD rows (min ((a - (b + 2660000)) / 10000) 543) 0 ≡ chanceOf (pos a -ℤ pos b)
+    go (yes h) = let e : a - (b + 2660000) ≡ a - b - 2660000 = omega arith in rw (difference-pos a b h, e) (chance-found (a - b) _ refl)
+    go (no h) =
+        let e : min ((a - (b + 2660000)) / 10000) 543 ≡ 0 = omega arith in
+        rw (difference-neg a b (omega arith), e) (chance-found 0 0 refl ∙ chance-of-zero ∙ sym (chance-negative (b - suc a)))
 
 -- 01's words, over any rows
 None : ℤ → List Row → Type 0

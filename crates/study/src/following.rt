@@ -7,7 +7,6 @@ ghost use Rattle.model.specs.Bounds.{mostRecords};
 ghost use Rattle.model.specs.Format.{effectKind};
 ghost use Rattle.model.specs.Machine.{most64, state};
 ghost use Rattle.counting.specs.Kinds.{withKinds};
-ghost use Rattle.effects.specs.Judging.{RightTables};
 ghost use Rattle.study.specs.Following.{readingAfter, coreAfter};
 ghost use Rattle.study.specs.Spans.{afterFirst, Records};
 use crate::Study;
@@ -112,16 +111,13 @@ fn core_after(c: Core, count: usize, next: u32, unjudged: u32) -> Core
 // The effect that the bytes begin with, which has been entered, and the effects that follow it; all the bytes' places are counted. The totals of the
 // kinds stay, whatever they are.
 pub(crate) fn read_effects(
-    table: &[u32; 256],
-    near: &[u8; 512],
-    rows: &[u32; 544],
     c: Core,
     bytes: &[u8],
     sums: &mut [u64; 256],
     margins: &mut [u32; 256],
     facts: &mut [u64; 256],
 ) -> Run
-    requires { ⌜ RightTables (now table) (now near) (now rows) × (16 ≤ length (now bytes)) × (getD (now bytes) 0 0 ≡ effectKind) ⌝ }
+    requires { ⌜ (16 ≤ length (now bytes)) × (getD (now bytes) 0 0 ≡ effectKind) ⌝ }
     requires { ⌜ c .reading .place + (length (now bytes) - 9) ≤ most64 ⌝ }
     ensures { λ r. ⌜ Records (now (bytes .entry)) (r .at) ⌝ }
     ensures { λ r. ⌜ ((l q k : List ℕ) → state (withKinds (r .core) l) (replicate 16 0) k (now (sums .exit)) (now (margins .exit)) (now (facts .exit)) ≡ afterFirst (state (withKinds c l) q k (now (sums .entry)) (now (margins .entry)) (now (facts .entry))) (now (bytes .entry)) (r .at)) ⌝ }
@@ -137,19 +133,7 @@ pub(crate) fn read_effects(
     let b = c.branch;
     let y = c.tally;
     let most = most_effects(c);
-    let run = effects::take_effects(
-        table,
-        near,
-        rows,
-        b,
-        k.targets,
-        most,
-        y.unjudged,
-        bytes,
-        sums,
-        margins,
-        facts,
-    );
+    let run = effects::take_effects(b, k.targets, most, y.unjudged, bytes, sums, margins, facts);
     if run.count == 0 {
         let own = faults::own_effect(k.targets, b.kind, b.next, bytes);
         return Run {

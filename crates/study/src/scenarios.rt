@@ -8,7 +8,6 @@ ghost use lib.ListN.{length, getD, replicate};
 ghost use Rattle.model.specs.Format.{leakKind, effectKind};
 ghost use Rattle.model.specs.Machine.{most64, openPhase, core, reading, state};
 ghost use Rattle.counting.specs.Kinds.{withKinds};
-ghost use Rattle.effects.specs.Judging.{RightTables};
 ghost use Rattle.study.specs.Spans.{lengthOf, afterFirst, Records};
 use crate::following::read_effects;
 use crate::records::Run;
@@ -75,9 +74,6 @@ pub(crate) fn entered_at(k: Counts, b: Branch, y: Tally, at: u64, n: u8) -> Core
 // A leak, a branching, an outcome, or an effect with the effects that follow it, at a place among the bytes. A record is read in a slice of sixteen,
 // where no field's end need be tested. The lent array has the totals of the kinds; those in the tally are old.
 fn read_one(
-    table: &[u32; 256],
-    near: &[u8; 512],
-    rows: &[u32; 544],
     k: Counts,
     b: Branch,
     y: Tally,
@@ -89,7 +85,7 @@ fn read_one(
     facts: &mut [u64; 256],
     kinds: &mut [u64; 6],
 ) -> Run
-    requires { ⌜ RightTables (now table) (now near) (now rows) × (16 ≤ length (now p)) × (leakKind ≤ getD (now p) 0 0) × (getD (now p) 0 0 ≤ effectKind) × (at + length (now p) ≤ most64) ⌝ }
+    requires { ⌜ (16 ≤ length (now p)) × (leakKind ≤ getD (now p) 0 0) × (getD (now p) 0 0 ≤ effectKind) × (at + length (now p) ≤ most64) ⌝ }
     ensures { λ r. ⌜ Records (now (p .entry)) (r .at) ⌝ }
     ensures { λ r. ⌜ ((q : List ℕ) → state (withKinds (r .core) (now (kinds .exit))) (replicate 16 0) (now (stack .exit)) (now (sums .exit)) (now (margins .exit)) (now (facts .exit)) ≡ afterFirst (state (withKinds (core (reading openPhase (lengthOf (now (p .entry))) (at + lengthOf (now (p .entry))) at 0 0) k b y) (now (kinds .entry))) q (now (stack .entry)) (now (sums .entry)) (now (margins .entry)) (now (facts .entry))) (now (p .entry)) (r .at)) ⌝ }
 {
@@ -97,7 +93,7 @@ fn read_one(
     let kind = decoding::kind(first);
     if kind == record::EFFECT {
         let c = entered_at(k, b, y, at, 9);
-        return read_effects(table, near, rows, c, p, sums, margins, facts);
+        return read_effects(c, p, sums, margins, facts);
     }
     if kind == record::OUTCOME {
         let c = entered_at(k, b, y, at, 4);
@@ -117,9 +113,6 @@ fn read_one(
 // The records of scenarios that the bytes begin with. The parts that go by value stand each by itself in the loop; the reading that comes in is not
 // looked at.
 fn read_from_first(
-    table: &[u32; 256],
-    near: &[u8; 512],
-    rows: &[u32; 544],
     c: Core,
     bytes: &[u8],
     stack: &mut [u64; 9],
@@ -128,7 +121,7 @@ fn read_from_first(
     facts: &mut [u64; 256],
     kinds: &mut [u64; 6],
 ) -> Run
-    requires { ⌜ RightTables (now table) (now near) (now rows) × (16 ≤ length (now bytes)) × (leakKind ≤ getD (now bytes) 0 0) × (getD (now bytes) 0 0 ≤ effectKind) ⌝ }
+    requires { ⌜ (16 ≤ length (now bytes)) × (leakKind ≤ getD (now bytes) 0 0) × (getD (now bytes) 0 0 ≤ effectKind) ⌝ }
     ensures { λ r. ⌜ Records (now (bytes .entry)) (r .at) ⌝ }
     ensures { λ r. ⌜ ((q : List ℕ) → state (withKinds (r .core) (now (kinds .exit))) (replicate 16 0) (now (stack .exit)) (now (sums .exit)) (now (margins .exit)) (now (facts .exit)) ≡ afterFirst (state (withKinds (core (reading openPhase (lengthOf (now (bytes .entry))) (lengthOf (now (bytes .entry))) 0 0 0) (c .counts) (c .branch) (c .tally)) (now (kinds .entry))) q (now (stack .entry)) (now (sums .entry)) (now (margins .entry)) (now (facts .entry))) (now (bytes .entry)) (r .at)) ⌝ }
 {
@@ -140,9 +133,6 @@ fn read_from_first(
     let mut more = true;
     while more {
         let run = read_one(
-            table,
-            near,
-            rows,
             k,
             b,
             y,
@@ -173,9 +163,6 @@ fn read_from_first(
 
 // The leak, branching, outcome or effect that the bytes begin with, which has been entered, and those that follow it.
 pub(crate) fn read_scenarios(
-    table: &[u32; 256],
-    near: &[u8; 512],
-    rows: &[u32; 544],
     c: Core,
     bytes: &[u8],
     stack: &mut [u64; 9],
@@ -184,23 +171,12 @@ pub(crate) fn read_scenarios(
     facts: &mut [u64; 256],
     kinds: &mut [u64; 6],
 ) -> Run
-    requires { ⌜ RightTables (now table) (now near) (now rows) × (16 ≤ length (now bytes)) × (leakKind ≤ getD (now bytes) 0 0) × (getD (now bytes) 0 0 ≤ effectKind) ⌝ }
+    requires { ⌜ (16 ≤ length (now bytes)) × (leakKind ≤ getD (now bytes) 0 0) × (getD (now bytes) 0 0 ≤ effectKind) ⌝ }
     ensures { λ r. ⌜ Records (now (bytes .entry)) (r .at) ⌝ }
     ensures { λ r. ⌜ ((q : List ℕ) → state (withKinds (r .core) (now (kinds .exit))) (replicate 16 0) (now (stack .exit)) (now (sums .exit)) (now (margins .exit)) (now (facts .exit)) ≡ afterFirst (state (withKinds c (now (kinds .entry))) q (now (stack .entry)) (now (sums .entry)) (now (margins .entry)) (now (facts .entry))) (now (bytes .entry)) (r .at)) ⌝ }
 {
     let n = decoding::body_length(decoding::kind(bytes)) + 1;
-    let run = read_from_first(
-        table,
-        near,
-        rows,
-        c,
-        bytes,
-        stack,
-        sums,
-        margins,
-        facts,
-        kinds,
-    );
+    let run = read_from_first(c, bytes, stack, sums, margins, facts, kinds);
     let after = run.core;
     let h = reading::moved(c.reading, n as u64, after.reading);
     Run {

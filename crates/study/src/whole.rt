@@ -8,7 +8,6 @@ ghost use Rattle.numeric.specs.Choice.{pick};
 ghost use Rattle.model.specs.Verdict.{decode};
 ghost use Rattle.model.specs.Machine.{openPhase, core, reading, state, recordRead, cleared, step, readAll};
 ghost use Rattle.counting.specs.Kinds.{withKinds};
-ghost use Rattle.effects.specs.Judging.{RightTables};
 ghost use Rattle.study.specs.Spans.{Between, Next, lengthOf, afterFirst, Records};
 use crate::records::Run;
 use crate::records::read_other;
@@ -49,9 +48,6 @@ fn entered(c: Core, bytes: &[u8]) -> Core
 
 // The record that the bytes begin with, which has been entered; after a record of a scenario also those of scenarios that follow it.
 fn read_some(
-    table: &[u32; 256],
-    near: &[u8; 512],
-    rows: &[u32; 544],
     c: Core,
     bytes: &[u8],
     stack: &mut [u64; 9],
@@ -60,25 +56,14 @@ fn read_some(
     facts: &mut [u64; 256],
     kinds: &mut [u64; 6],
 ) -> Run
-    requires { ⌜ RightTables (now table) (now near) (now rows) × (16 ≤ length (now bytes)) ⌝ }
+    requires { ⌜ (16 ≤ length (now bytes)) ⌝ }
     ensures { λ r. ⌜ Records (now (bytes .entry)) (r .at) ⌝ }
     ensures { λ r. ⌜ ((q : List ℕ) → state (withKinds (r .core) (now (kinds .exit))) (replicate 16 0) (now (stack .exit)) (now (sums .exit)) (now (margins .exit)) (now (facts .exit)) ≡ afterFirst (state (withKinds c (now (kinds .entry))) q (now (stack .entry)) (now (sums .entry)) (now (margins .entry)) (now (facts .entry))) (now (bytes .entry)) (r .at)) ⌝ }
 {
     let kind = decoding::kind(bytes);
     if record::LEAK <= kind {
         if kind <= record::EFFECT {
-            return read_scenarios(
-                table,
-                near,
-                rows,
-                c,
-                bytes,
-                stack,
-                sums,
-                margins,
-                facts,
-                kinds,
-            );
+            return read_scenarios(c, bytes, stack, sums, margins, facts, kinds);
         }
     }
     read_other(c, bytes, facts)
@@ -86,9 +71,6 @@ fn read_some(
 
 // The record that the bytes begin with, which has been entered, and the whole records that follow it.
 fn read_records(
-    table: &[u32; 256],
-    near: &[u8; 512],
-    rows: &[u32; 544],
     c: Core,
     bytes: &[u8],
     stack: &mut [u64; 9],
@@ -97,25 +79,14 @@ fn read_records(
     facts: &mut [u64; 256],
     kinds: &mut [u64; 6],
 ) -> Run
-    requires { ⌜ RightTables (now table) (now near) (now rows) × (16 ≤ length (now bytes)) ⌝ }
+    requires { ⌜ (16 ≤ length (now bytes)) ⌝ }
     ensures { λ r. ⌜ Records (now (bytes .entry)) (r .at) ⌝ }
     ensures { λ r. ⌜ ((q : List ℕ) → state (withKinds (r .core) (now (kinds .exit))) (replicate 16 0) (now (stack .exit)) (now (sums .exit)) (now (margins .exit)) (now (facts .exit)) ≡ afterFirst (state (withKinds c (now (kinds .entry))) q (now (stack .entry)) (now (sums .entry)) (now (margins .entry)) (now (facts .entry))) (now (bytes .entry)) (r .at)) ⌝ }
 {
     let mut core = c;
     let mut at: usize = 0;
     while 16 <= bytes.len() - at {
-        let run = read_some(
-            table,
-            near,
-            rows,
-            core,
-            &bytes[at..],
-            stack,
-            sums,
-            margins,
-            facts,
-            kinds,
-        );
+        let run = read_some(core, &bytes[at..], stack, sums, margins, facts, kinds);
         let after = run.core;
         at += run.at;
         if next_here(after.reading, &bytes[at..]) {
@@ -194,22 +165,8 @@ pub(crate) fn read_on(
     let e = enter(direct, c, &bytes[from..], p);
     let d = e.core;
     if e.whole {
-        let table = log2::thresholds();
-        let near = log2::near_steps();
-        let rows = probit::rows();
         let here = source(direct, &bytes[from..], p);
-        let run = read_records(
-            &table,
-            &near,
-            &rows,
-            d,
-            here,
-            stack,
-            sums,
-            margins,
-            facts,
-            kinds,
-        );
+        let run = read_records(d, here, stack, sums, margins, facts, kinds);
         clear(p);
         let after = run.core;
         let end = from + taken_from(direct, run.at);

@@ -1,3 +1,2 @@
 pub mod Terms
 pub mod Scales
-pub mod Lent

@@ -36,11 +36,11 @@ fire-row-requires c κs =
     let s = e .before .before .before .before .before in
     (row-of (s .args .b) (s .args .next) (read-at e) (sym (e .effect-fault .ensures) ∙ z .if1 .taken), s .pre .2)
 
-cast-t22 : tie.Need-cast-t22
-cast-t22 c = search needs
+cast-t19 : tie.Need-cast-t19
+cast-t19 c = search needs
 
-add-t23 : tie.Need-add-t23
-add-t23 c = search needs
+add-t20 : tie.Need-add-t20
+add-t20 c = search needs
 
 returns : tie.Need-returns
 returns c =
@@ -71,8 +71,8 @@ fire-spec =
     effect-fault-requires
     cast-fire-row
     fire-row-requires
-    cast-t22
-    add-t23
+    cast-t19
+    add-t20
     returns
     past-rows-requires
     returns-2)

@@ -48,7 +48,7 @@ returns c =
     let e = z .before in
     let s = e .before .before .before .before .before in
     let fault = sym (e .effect-fault .ensures) ∙ z .if1 .taken in
-    ((next-row (s .args .b) (s .args .next) (read-at e) fault, omega arith), λ scales. taking-row (s .args .b) (s .args .next) (read-at e) fault (c .flash-row .ensures _))
+    ((next-row (s .args .b) (s .args .next) (read-at e) fault, omega arith), taking-row (s .args .b) (s .args .next) (read-at e) fault (c .flash-row .ensures))
 
 past-rows-requires : tie.Need-past-rows-requires
 past-rows-requires c κs = search needs
@@ -59,7 +59,7 @@ returns-2 c =
     let e = z .before in
     let s = e .before .before .before .before .before in
     let past = c .past-rows .ensures in
-    ((next-past (s .args .b) (s .args .next) (read-at e) _ (past .0), omega (arith, past .1)), λ scales. taking-past (s .args .b) (s .args .next) (read-at e) (people-judged _) (λ k. z .if1 .left (e .effect-fault .ensures ∙ k)) (past .1))
+    ((next-past (s .args .b) (s .args .next) (read-at e) _ (past .0), omega (arith, past .1)), taking-past (s .args .b) (s .args .next) (read-at e) (people-judged _) (λ k. z .if1 .left (e .effect-fault .ensures ∙ k)) (past .1))
 
 pub flash-spec : {M : Type 1} → statement M
 flash-spec =

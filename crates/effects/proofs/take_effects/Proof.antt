@@ -5,7 +5,8 @@ use Prim.Native.Nat.{ℕ, _-_, _*_, _<_, _≤_}
 use native.Mathlib.Omega.{arith}
 use lib.ListN.{drop}
 use Rattle.model.specs.Machine.{upTo, most32}
-use Rattle.effects.specs.Judging.{byTables}
+use Rattle.terms.specs.Terms.{seconds}
+use Rattle.vulnerability.specs.Effect.{effectOn}
 use Rattle.effects.specs.Effects.{Figures, figures, afterEffects, sound}
 use Rattle.effects.proofs.Laws.{effects-none, effects-next, step-sound, step-unsound, step-parts, step-left, sound-at, sound-more, more-missed}
 use Rattle.effects.proofs.TakenLaws.{taken-only}
@@ -14,13 +15,13 @@ use Rattle.effects.proofs.take_effects.Statement.{statement}
 use Rattle.effects.proofs.take_effects.Tie as tie
 
 abbrev Inv-loop : tie.InvT-loop
-Inv-loop table near rows b targets most before bytes sums₀ margins₀ facts₀ top limit count₀ next₀ missed₀ sums margins facts count next missed =
+Inv-loop b targets most before bytes sums₀ margins₀ facts₀ top limit count₀ next₀ missed₀ sums margins facts count next missed =
     (count ≤ top) × (missed ≤ count)
-    × (figures next (upTo most32 before missed) sums margins facts ≡ afterEffects (byTables table near rows) b (figures (b .next) before sums₀ margins₀ facts₀) bytes count)
-    × ((i : ℕ) → i < count → sound targets (b .kind) (afterEffects (byTables table near rows) b (figures (b .next) before sums₀ margins₀ facts₀) bytes i .next) (drop (i * 9) bytes) ≡ true)
+    × (figures next (upTo most32 before missed) sums margins facts ≡ afterEffects (effectOn seconds) b (figures (b .next) before sums₀ margins₀ facts₀) bytes count)
+    × ((i : ℕ) → i < count → sound targets (b .kind) (afterEffects (effectOn seconds) b (figures (b .next) before sums₀ margins₀ facts₀) bytes i .next) (drop (i * 9) bytes) ≡ true)
 
 abbrev μ-loop : tie.MeasureT-loop
-μ-loop table near rows b targets most before bytes sums₀ margins₀ facts₀ top limit count₀ next₀ missed₀ sums margins facts count next missed = top - count
+μ-loop b targets most before bytes sums₀ margins₀ facts₀ top limit count₀ next₀ missed₀ sums margins facts count next missed = top - count
 
 reach-requires : tie.Need-reach-requires Inv-loop μ-loop
 reach-requires c κs = search needs

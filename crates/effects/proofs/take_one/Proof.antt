@@ -20,7 +20,7 @@ flash-requires : tie.Need-flash-requires
 flash-requires c κs = search needs
 
 returns-2 : tie.Need-returns-2
-returns-2 c = (c .flash .ensures .0, c .flash .ensures .1 _)
+returns-2 c = search needs
 
 blast-requires : tie.Need-blast-requires
 blast-requires c κs = search needs

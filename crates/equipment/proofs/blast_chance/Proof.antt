@@ -2,7 +2,7 @@
 use mathlib.Core.Path.{ap, _∙_}
 use Prim.Native.Nat.{ℕ}
 use lib.IntN.{pos, _-ℤ_}
-use Rattle.probit.specs.Rows.{chanceBy}
+use Rattle.probit.specs.Chance.{chanceOf}
 use Rattle.equipment.specs.Damage.{blastProbitBy}
 use borrow.Author.Needs.{needs}
 use Rattle.equipment.proofs.blast_chance.Statement.{statement}
@@ -19,7 +19,7 @@ chance-requires c κs = search needs
 
 returns : tie.Need-returns
 unfolding blastProbitBy
-returns c = c .chance .ensures ∙ ap (λ (y : ℕ). chanceBy (c .before .before .before .args .rows .now) (pos y -ℤ pos (c .before .before .before .args .row .constant))) (c .before .scaled-log .ensures .0)
+returns c = c .chance .ensures ∙ ap (λ (y : ℕ). chanceOf (pos y -ℤ pos (c .before .before .before .args .row .constant))) (c .before .scaled-log .ensures .0)
 
 pub blast-chance-spec : {M : Type 1} → statement M
 blast-chance-spec =

@@ -1,6 +1,6 @@
 -- `equipment::sphere` meets its contract, case by case. Assumes nothing.
 use mathlib.Core.Path.{refl, sym, _∙_}
-use Rattle.terms.specs.Lent.{lent}
+use Rattle.terms.specs.Scales.{standard}
 use Rattle.numeric.proofs.ChoiceLaws.{ge-case, lt-case}
 use Rattle.equipment.specs.Damage.{sphereDamageBy}
 use Rattle.equipment.proofs.FireLaws.{sphere-volume, sphere-none, sphere-left, sphere-judged}
@@ -26,8 +26,7 @@ returns-3 : tie.Need-returns-3
 unfolding sphereDamageBy
 returns-3 c =
     let t = c .before in
-    let a = t .before .before .before .before .args in
-    sphere-judged (lent (a .table .now) (a .near .now) (a .rows .now)) _ _ _ _ (sym (t .if3 .taken) ∙ t .before .has-root .ensures ∙ sphere-volume _ _ refl) (lt-case _ _ _ _ (search needs) (lt-case _ _ _ _ (search needs) (c .sphere-chance .ensures)))
+    sphere-judged standard _ _ _ _ (sym (t .if3 .taken) ∙ t .before .has-root .ensures ∙ sphere-volume _ _ refl) (lt-case _ _ _ _ (search needs) (lt-case _ _ _ _ (search needs) (c .sphere-chance .ensures)))
 
 returns-4 : tie.Need-returns-4
 returns-4 c = sphere-left _ _ _ _ _ (sym (c .if3 .left) ∙ c .before .has-root .ensures ∙ sphere-volume _ _ refl)

@@ -3,7 +3,7 @@ use mathlib.Core.Path.{_∙_, ap, ap₂}
 use Prim.Native.Nat.{ℕ, _+_, _*_, _/_}
 use native.Mathlib.Omega.{arith}
 use lib.IntN.{pos, _-ℤ_}
-use Rattle.probit.specs.Rows.{chanceBy}
+use Rattle.probit.specs.Chance.{chanceOf}
 use Rattle.equipment.specs.Damage.{sphereProbitBy}
 use borrow.Author.Needs.{needs}
 use Rattle.equipment.proofs.sphere_chance.Statement.{statement}
@@ -29,7 +29,7 @@ unfolding sphereProbitBy
 returns c =
     let x = c .before .before .before in
     let size = c .before .sphere-size .ensures ∙ ap (λ (k : ℕ). 16336715 * k / 1000) (c .before .before .root .ensures .0) in
-    c .chance .ensures ∙ ap₂ (λ (h z : ℕ). chanceBy (x .before .args .rows .now) (pos (457583 + h) -ℤ pos z)) (x .scaled-log .ensures .0) size
+    c .chance .ensures ∙ ap₂ (λ (h z : ℕ). chanceOf (pos (457583 + h) -ℤ pos z)) (x .scaled-log .ensures .0) size
 
 pub sphere-chance-spec : {M : Type 1} → statement M
 sphere-chance-spec =

@@ -2,7 +2,7 @@
 use mathlib.Core.Path.{ap, _∙_}
 use Prim.Native.Nat.{ℕ}
 use lib.IntN.{pos, _-ℤ_}
-use Rattle.probit.specs.Rows.{chanceBy}
+use Rattle.probit.specs.Chance.{chanceOf}
 use Rattle.people.specs.Death.{fireProbitBy}
 use borrow.Author.Needs.{needs}
 use Rattle.people.proofs.by_probit.Statement.{statement}
@@ -16,7 +16,7 @@ chance-requires c κs = search needs
 
 returns : tie.Need-returns
 unfolding fireProbitBy
-returns c = c .chance .ensures ∙ ap (λ (y : ℕ). chanceBy (c .before .before .args .rows .now) (pos y -ℤ pos (c .before .before .args .constant))) (c .before .dose .ensures)
+returns c = c .chance .ensures ∙ ap (λ (y : ℕ). chanceOf (pos y -ℤ pos (c .before .before .args .constant))) (c .before .dose .ensures)
 
 pub by-probit-spec : {M : Type 1} → statement M
 by-probit-spec = tie.close (tie.spec dose-requires chance-requires returns)

@@ -3,14 +3,14 @@ use borrow.Author.Needs.{needs}
 use Rattle.people.proofs.dose.Statement.{statement}
 use Rattle.people.proofs.dose.Tie as tie
 
-log256-requires : tie.Need-log256-requires
-log256-requires c κs = search needs
+l-requires : tie.Need-l-requires
+l-requires c κs = search needs
 
 cast-heat : tie.Need-cast-heat
 cast-heat c = search needs
 
-log256-requires-2 : tie.Need-log256-requires-2
-log256-requires-2 c κs = search needs
+l-requires-2 : tie.Need-l-requires-2
+l-requires-2 c κs = search needs
 
 cast-time : tie.Need-cast-time
 cast-time c = search needs
@@ -28,15 +28,15 @@ mul-result-3 : tie.Need-mul-result-3
 mul-result-3 c = search needs
 
 returns : tie.Need-returns
-returns c = cc (c .before .log256 .ensures .0, c .log2562 .ensures .0)
+returns c = cc (c .before .l .ensures .0, c .l2 .ensures .0)
 
 pub dose-spec : {M : Type 1} → statement M
 dose-spec =
     tie.close
     (tie.spec
-    log256-requires
+    l-requires
     cast-heat
-    log256-requires-2
+    l-requires-2
     cast-time
     mul-result
     mul-result-2

@@ -10,19 +10,11 @@ add-above c = search needs
 above-requires : tie.Need-above-requires
 above-requires c κs = search needs
 
-least-requires : tie.Need-least-requires
-least-requires c κs = search needs
-
-mul-result : tie.Need-mul-result
-mul-result c = search needs
-
-element-copy-out-result : tie.Need-element-copy-out-result
-element-copy-out-result c = search needs
+row-chance-requires : tie.Need-row-chance-requires
+row-chance-requires c κs = search needs
 
 returns : tie.Need-returns
-returns c = cc (chance-difference _ _ _)
+returns c = cc (chance-difference _ _)
 
 pub chance-spec : {M : Type 1} → statement M
-chance-spec =
-    tie.close
-    (tie.spec add-above above-requires least-requires mul-result element-copy-out-result returns)
+chance-spec = tie.close (tie.spec add-above above-requires row-chance-requires returns)

@@ -32,7 +32,7 @@ taken-at : (c : tie.After-take-effects)
     → let m = c .before .before .before .before in
     let g = m .before .before .before .before .before .before .before .args in
     TakenIn (effectOn seconds) (g .c .counts .targets) (g .c .branch) (begin (g .c) (g .sums .now) (g .margins .now) (g .facts .now) (g .bytes .now)) (g .bytes .now) (min (m .most-effects .result) ((length (g .bytes .now) - 7) / 9)) (c .take-effects .result .count)
-taken-at c = rw (c .take-effects .ensures .0, c .before .before .before .before .before .before .before .before .before .before .before .pre .0 .0) (taken-is _ _ _ _ _ _)
+taken-at c = rw (c .take-effects .ensures .0) (taken-is _ _ _ _ _ _)
 
 place-fault-requires : tie.Need-place-fault-requires
 place-fault-requires c κs = search needs
@@ -46,12 +46,12 @@ returns c =
     let f = c .before .before in
     let s = f .before .before in
     let l = s .args .bytes .now in
-    let n : 9 ≡ lengthOf l = sym (effect-length l (s .pre .0 .2)) in (
-      records-alone l 9 n (s .pre .0 .1),
+    let n : 9 ≡ lengthOf l = sym (effect-length l (s .pre .0 .1)) in (
+      records-alone l 9 n (s .pre .0 .0),
       λ x q k.
           read-alone _ _ q k _ _ _ l 9 n
-          (other-read x (s .args .c) (c .refused .result) q k (s .args .sums .now) (s .args .margins .now) (s .args .facts .now) k (s .args .sums .now) (s .args .margins .now) (s .args .facts .now) (decode l) (effectRec (inSeconds (field l 1 2) (field l 3 4) (field l 7 2))) (decode-effect l (s .pre .0 .2)) tt
-          (rw (decode-effect l (s .pre .0 .2)) (place-refused _ _ _ (f .place-fault .ensures) (c .before .if1 .taken) (rw (c .refused .ensures) refl)))),
+          (other-read x (s .args .c) (c .refused .result) q k (s .args .sums .now) (s .args .margins .now) (s .args .facts .now) k (s .args .sums .now) (s .args .margins .now) (s .args .facts .now) (decode l) (effectRec (inSeconds (field l 1 2) (field l 3 4) (field l 7 2))) (decode-effect l (s .pre .0 .1)) tt
+          (rw (decode-effect l (s .pre .0 .1)) (place-refused _ _ _ (f .place-fault .ensures) (c .before .if1 .taken) (rw (c .refused .ensures) refl)))),
     )
 
 most-effects-requires : tie.Need-most-effects-requires
@@ -77,16 +77,16 @@ returns-2 c =
     let s = f .before .before in
     let g = s .args in
     let l = g .bytes .now in
-    let n : 9 ≡ lengthOf l = sym (effect-length l (s .pre .0 .2)) in
+    let n : 9 ≡ lengthOf l = sym (effect-length l (s .pre .0 .1)) in
     let start : Figures = begin (g .c) (g .sums .now) (g .margins .now) (g .facts .now) l in
-    let same = (rw (s .pre .0 .0, none) at (t .take-effects .ensures .1)) ∙ sym (effects-none (effectOn seconds) (g .c .branch) start l) in
-    let u = rw (none, ← effects-none (effectOn seconds) (g .c .branch) start l) at (taken-at t .stops (omega (arith, none, m .most-effects .ensures .0, s .pre .0 .1))) in (
-      records-alone l 9 n (s .pre .0 .1),
+    let same = (rw none at (t .take-effects .ensures .1)) ∙ sym (effects-none (effectOn seconds) (g .c .branch) start l) in
+    let u = rw (none, ← effects-none (effectOn seconds) (g .c .branch) start l) at (taken-at t .stops (omega (arith, none, m .most-effects .ensures .0, s .pre .0 .0))) in (
+      records-alone l 9 n (s .pre .0 .0),
       λ x q k.
           read-alone _ _ q k _ _ _ l 9 n
-          (other-read x (g .c) (c .refused2 .result) q k (g .sums .now) (g .margins .now) (g .facts .now) k _ _ _ (decode l) (effectRec (inSeconds (field l 1 2) (field l 3 4) (field l 7 2))) (decode-effect l (s .pre .0 .2)) tt
-          (rw (ap (λ (y : Figures). y .sums) same, ap (λ (y : Figures). y .margins) same, ap (λ (y : Figures). y .facts) same, decode-effect l (s .pre .0 .2))
-          (own-refused _ _ _ _ (f .place-fault .ensures) (i .if1 .left) (c .before .own-effect .ensures) (λ z. unsound-fault _ _ _ l u (s .pre .0 .2) (sym (c .before .own-effect .ensures) ∙ z)) (rw (c .refused2 .ensures) refl)))),
+          (other-read x (g .c) (c .refused2 .result) q k (g .sums .now) (g .margins .now) (g .facts .now) k _ _ _ (decode l) (effectRec (inSeconds (field l 1 2) (field l 3 4) (field l 7 2))) (decode-effect l (s .pre .0 .1)) tt
+          (rw (ap (λ (y : Figures). y .sums) same, ap (λ (y : Figures). y .margins) same, ap (λ (y : Figures). y .facts) same, decode-effect l (s .pre .0 .1))
+          (own-refused _ _ _ _ (f .place-fault .ensures) (i .if1 .left) (c .before .own-effect .ensures) (λ z. unsound-fault _ _ _ l u (s .pre .0 .1) (sym (c .before .own-effect .ensures) ∙ z)) (rw (c .refused2 .ensures) refl)))),
     )
 
 core-after-requires : tie.Need-core-after-requires
@@ -102,8 +102,8 @@ core-after-requires c κs =
       within-bounds _ _ (sym (i .if1 .left) ∙ i .before .place-fault .ensures) (λ w. (omega (arith, bound w .0, n), omega (arith, bound w .1, n))),
     )
 
-mul-t23 : tie.Need-mul-t23
-mul-t23 c = let t = c .before .before .before .before in omega (arith, taken-at t .within, t .before .before .before .before .before .before .before .before .before .before .before .good)
+mul-t20 : tie.Need-mul-t20
+mul-t20 c = let t = c .before .before .before .before in omega (arith, taken-at t .within, t .before .before .before .before .before .before .before .before .before .before .before .good)
 
 returns-3 : tie.Need-returns-3
 unfolding placeFault
@@ -130,7 +130,7 @@ returns-3 c =
       effects-read (withKinds (g .c) []) (g .sums .now) (g .margins .now) (g .facts .now) (g .bytes .now) (n - 1) n last (free []) .0,
       λ x q k.
           with-kinds x (g .c) n (t .take-effects .result .next) (t .take-effects .result .unjudged) (a .core-after .ensures)
-          (ap (λ (y : Figures). state (coreAfter (withKinds (g .c) x) n (y .next) (y .unjudged)) (replicate 16 0) k (y .sums) (y .margins) (y .facts)) (rw (s .pre .0 .0) at (t .take-effects .ensures .1)) ∙ effects-read (withKinds (g .c) x) (g .sums .now) (g .margins .now) (g .facts .now) (g .bytes .now) (n - 1) n last (free x) .1 q k),
+          (ap (λ (y : Figures). state (coreAfter (withKinds (g .c) x) n (y .next) (y .unjudged)) (replicate 16 0) k (y .sums) (y .margins) (y .facts)) (t .take-effects .ensures .1) ∙ effects-read (withKinds (g .c) x) (g .sums .now) (g .margins .now) (g .facts .now) (g .bytes .now) (n - 1) n last (free x) .1 q k),
     )
 
 pub read-effects-spec : {M : Type 1} → statement M
@@ -146,5 +146,5 @@ read-effects-spec =
     refused-requires-2
     returns-2
     core-after-requires
-    mul-t23
+    mul-t20
     returns-3)

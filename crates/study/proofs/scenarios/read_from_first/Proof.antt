@@ -17,7 +17,7 @@ use Rattle.study.proofs.scenarios.read_from_first.Tie as tie
 
 -- while there is more, a record of a scenario stands at the place; then the records up to it have been read
 abbrev Inv-loop : tie.InvT-loop
-Inv-loop table near rows bytes stack₀ sums₀ margins₀ facts₀ kinds₀ h₀ k₀ b₀ y₀ at₀ more₀ stack sums margins facts kinds h k b y at more =
+Inv-loop bytes stack₀ sums₀ margins₀ facts₀ kinds₀ h₀ k₀ b₀ y₀ at₀ more₀ stack sums margins facts kinds h k b y at more =
     (more ≡ true →
     Standing bytes at
     × (3 ≤ getD (drop at bytes) 0 0)
@@ -28,7 +28,7 @@ Inv-loop table near rows bytes stack₀ sums₀ margins₀ facts₀ kinds₀ h�
     × ((q : List ℕ) → state (withKinds (core h k b y) kinds) (replicate 16 0) stack sums margins facts ≡ afterFirst (state (withKinds (core (atFirst (lengthOf bytes)) k₀ b₀ y₀) kinds₀) q stack₀ sums₀ margins₀ facts₀) bytes at))
 
 abbrev μ-loop : tie.MeasureT-loop
-μ-loop table near rows bytes stack₀ sums₀ margins₀ facts₀ kinds₀ h₀ k₀ b₀ y₀ at₀ more₀ stack sums margins facts kinds h k b y at more = length bytes - at
+μ-loop bytes stack₀ sums₀ margins₀ facts₀ kinds₀ h₀ k₀ b₀ y₀ at₀ more₀ stack sums margins facts kinds h k b y at more = length bytes - at
 
 -- where a turn begins
 standing-at : (c : tie.In-loop Inv-loop μ-loop) → Standing (c .before .before .before .before .before .before .before .args .bytes .now) (c .before .loop .at)
@@ -49,9 +49,9 @@ loop-holds c =
     let l = g .bytes .now in
     let z : lengthOf l ≡ 0 + lengthOf l = omega arith in (
       λ e. (
-        standing-start l (s .pre .1),
+        standing-start l (s .pre .0),
+        s .pre .1,
         s .pre .2,
-        s .pre .3,
         λ q.
             subst (λ (x : ℕ). Reached (state (withKinds (core (atFirst (lengthOf l)) (g .c .counts) (g .c .branch) (g .c .tally)) (g .kinds .now)) q (g .stack .now) (g .sums .now) (g .margins .now) (g .facts .now)) (state (withKinds (core (reading 0 (lengthOf l) x 0 0 0) (g .c .counts) (g .c .branch) (g .c .tally)) (g .kinds .now)) q (g .stack .now) (g .sums .now) (g .margins .now) (g .facts .now)) l 0)
             z (reached-start _ l),
@@ -75,7 +75,7 @@ read-one-requires c κs =
     let w = v .inv .0 (i .loop-test .taken) in
     let s = i .before .before .before .before .before .before .before in
     let l = s .args .bytes .now in
-    (s .pre .0, rw (rest-is l (v .at)) (omega (arith, length-drop (v .at) l, w .0 .room)), rw (rest-is l (v .at)) (w .1), rw (rest-is l (v .at)) (w .2), rw (rest-is l (v .at)) (omega (arith, length-drop (v .at) l, w .0 .room, s .good)))
+    (rw (rest-is l (v .at)) (omega (arith, length-drop (v .at) l, w .0 .room)), rw (rest-is l (v .at)) (w .1), rw (rest-is l (v .at)) (w .2), rw (rest-is l (v .at)) (omega (arith, length-drop (v .at) l, w .0 .room, s .good)))
 
 add-at : tie.Need-add-at Inv-loop μ-loop
 add-at c = omega (arith, records-at (c .before .before .before .before .before .before) .there, c .before .before .before .before .before .before .before .before .before .before .before .before .before .before .before .before .before .before .before .before .good)

@@ -42,7 +42,7 @@ kind-requires c κs = search needs
 in-first : (c : tie.After-kind) → let l = c .before .before .before .args .p .now in (getD (take 16 l) 0 0 ≡ getD l 0 0) × (decode (take 16 l) ≡ decode l)
 in-first c =
     let s = c .before .before .before in
-    in-sixteen (s .args .p .now) (s .pre .1) (scenario-known _ (s .pre .2) (s .pre .3))
+    in-sixteen (s .args .p .now) (s .pre .0) (scenario-known _ (s .pre .1) (s .pre .2))
 
 entered-at-requires : tie.Need-entered-at-requires
 entered-at-requires c κs = search needs
@@ -61,13 +61,13 @@ leak-at : (c : tie.Else3) → getD (take 16 (c .before .before .before .before .
 leak-at c =
     let k = c .before .before .before in
     let s = k .before .before .before in
-    omega (arith, s .pre .2, s .pre .3, in-first k .0, k .kind .ensures, c .before .before .if1 .left, c .before .if2 .left, c .if3 .left)
+    omega (arith, s .pre .1, s .pre .2, in-first k .0, k .kind .ensures, c .before .before .if1 .left, c .before .if2 .left, c .if3 .left)
 
 read-effects-requires : tie.Need-read-effects-requires
 read-effects-requires c κs =
     let e = c .before .before .before in
     let s = e .before .before .before .before .before in
-    ((s .pre .0, s .pre .1, effect-at (e .before)), rw (e .entered-at .ensures) (omega (arith, s .pre .1, s .pre .4)))
+    ((s .pre .0, effect-at (e .before)), rw (e .entered-at .ensures) (omega (arith, s .pre .0, s .pre .3)))
 
 returns : tie.Need-returns
 returns c =
@@ -92,7 +92,7 @@ returns-2 c =
     let g = s .args in
     let l = g .p .now in
     let n : 4 ≡ lengthOf l = length-at (sym (outcome-at (e .before)) ∙ w .0) in (
-      records-alone l 4 n (s .pre .1),
+      records-alone l 4 n (s .pre .0),
       λ q.
           entered-after _ (g .k) (g .b) (g .y) (g .at) 4 4 l (g .kinds .now) q _ _ _ _ _ n (e .entered-at2 .ensures)
           (read-alone _ _ q _ _ _ _ l 4 n (rw (w .1) at (c .read-outcome .ensures q (g .sums .now) (g .margins .now) (g .facts .now)))),
@@ -114,7 +114,7 @@ returns-3 c =
     let l = g .p .now in
     let k = branching-at (e .before) in
     let n : 5 ≡ lengthOf l = length-at (sym k ∙ w .0) in (
-      records-alone l 5 n (s .pre .1),
+      records-alone l 5 n (s .pre .0),
       λ q.
           entered-after _ (g .k) (g .b) (g .y) (g .at) 5 5 l (g .kinds .now) q _ _ _ _ _ n (e .entered-at3 .ensures)
           (read-alone _ _ q _ _ _ _ l 5 n (rw (w .1) at (other-read (g .kinds .now) _ _ q _ _ _ _ _ _ _ _ _ _ (decode-branching (take 16 l) k) tt (c .read-branching .ensures q (g .sums .now) (g .margins .now) (g .facts .now))))),
@@ -136,7 +136,7 @@ returns-4 c =
     let l = g .p .now in
     let k = leak-at (e .before) in
     let n : 13 ≡ lengthOf l = length-at (sym k ∙ w .0) in (
-      records-alone l 13 n (s .pre .1),
+      records-alone l 13 n (s .pre .0),
       λ q.
           entered-after _ (g .k) (g .b) (g .y) (g .at) 13 13 l (g .kinds .now) q _ _ _ _ _ n (e .entered-at4 .ensures)
           (read-alone _ _ q _ _ _ _ l 13 n (rw (w .1) at (other-read (g .kinds .now) _ _ q _ _ _ _ _ _ _ _ _ _ (decode-leak (take 16 l) k) tt (c .read-leak .ensures q (g .sums .now) (g .margins .now) (g .facts .now))))),

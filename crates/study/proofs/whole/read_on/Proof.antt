@@ -5,7 +5,6 @@ use native.Mathlib.Omega.{arith}
 use lib.ListN.{length}
 use Rattle.state.specs.declared.Core.{Core}
 use Rattle.counting.specs.Kinds.{withKinds}
-use Rattle.effects.proofs.Laws.{right-tables}
 use Rattle.study.proofs.SpanLaws.{EnteredEither, either-wide, either-there, either-read, either-byte}
 use borrow.Author.Needs.{needs}
 use Rattle.study.proofs.whole.read_on.Statement.{statement}
@@ -17,11 +16,11 @@ entered-at : (c : tie.After-enter)
 entered-at c = record { here = c .before .before .before .before .before .before .pre .0; wide = c .before .before .before .before .before .before .pre .1; stays = c .enter .ensures .0; next = c .before .before .before .next-here .ensures; record-whole = λ z. (c .enter .ensures .1 .0 z .0, ap (λ (x : Core). withKinds x (c .before .before .before .before .before .before .args .kinds .now)) (c .enter .ensures .1 .0 z .1)); byte = λ z. c .enter .ensures .1 .1 z (c .before .before .before .before .before .before .args .kinds .now) }
 
 -- the bytes that are read
-there-at : (c : tie.After-taken-from) → (c .before .before .before .before .before .before .before .before .before .before .before .before .before .before .before .before .before .before .before .before .before .before .before .before .before .before .before .args .from < c .before .before .before .before .before .before .before .before .before .before .before .before .before .before .before .before .before .before .before .before .before .before .before .before .before .before .before .args .from + c .taken-from .result) × (c .before .before .before .before .before .before .before .before .before .before .before .before .before .before .before .before .before .before .before .before .before .before .before .before .before .before .before .args .from + c .taken-from .result ≤ length (c .before .before .before .before .before .before .before .before .before .before .before .before .before .before .before .before .before .before .before .before .before .before .before .before .before .before .before .args .bytes .now))
+there-at : (c : tie.After-taken-from) → (c .before .before .before .before .before .before .before .before .before .before .before .before .before .before .before .before .before .before .before .before .before .args .from < c .before .before .before .before .before .before .before .before .before .before .before .before .before .before .before .before .before .before .before .before .before .args .from + c .taken-from .result) × (c .before .before .before .before .before .before .before .before .before .before .before .before .before .before .before .before .before .before .before .before .before .args .from + c .taken-from .result ≤ length (c .before .before .before .before .before .before .before .before .before .before .before .before .before .before .before .before .before .before .before .before .before .args .bytes .now))
 there-at c =
-    let a = c .before .before .before .before .before .before .before .before .before .before .before .before .before .before .before .before .before .before .before .before .before .before .before .before .before .before .before in
+    let a = c .before .before .before .before .before .before .before .before .before .before .before .before .before .before .before .before .before .before .before .before .before in
     rw (c .taken-from .ensures)
-    (either-there (c .before .before .before .before .before .before .before .before .before .before .before .before .before .before .before .before .before .before .before .before .before .before .before .before .next-here .result) (a .args .bytes .now) (c .before .before .before .before .before .before .before .before .before .before .before .before .before .before .before .before .before .before .before .before .before .enter .last .1 .1 .1 .0) _ (a .args .from) _ (a .pre .0) (c .before .before .before .before .before .before .before .before .before .before .before .before .before .source .ensures) (c .before .before .before .before .read-records .ensures .0))
+    (either-there (c .before .before .before .before .before .before .before .before .before .before .before .before .before .before .before .before .before .before .next-here .result) (a .args .bytes .now) (c .before .before .before .before .before .before .before .before .before .before .before .before .before .before .before .enter .last .1 .1 .1 .0) _ (a .args .from) _ (a .pre .0) (c .before .before .before .before .before .before .before .before .before .before .source .ensures) (c .before .before .before .before .read-records .ensures .0))
 
 sub-next-here : tie.Need-sub-next-here
 sub-next-here c = search needs
@@ -47,15 +46,6 @@ part-enter-end c = search needs
 enter-requires : tie.Need-enter-requires
 enter-requires c κs = search needs
 
-thresholds-requires : tie.Need-thresholds-requires
-thresholds-requires c κs = search needs
-
-near-steps-requires : tie.Need-near-steps-requires
-near-steps-requires c κs = search needs
-
-rows-requires : tie.Need-rows-requires
-rows-requires c κs = search needs
-
 sub-source : tie.Need-sub-source
 sub-source c = search needs
 
@@ -70,9 +60,9 @@ source-requires c κs = search needs
 
 read-records-requires : tie.Need-read-records-requires
 read-records-requires c κs =
-    let a = c .before .before .before .before .before .before .before .before .before .before .before .before .before .before .before .before .before .before .before .before .before .before in
-    let e = entered-at (c .before .before .before .before .before .before .before .before .before .before .before .before .before .before .before .before) in
-    (right-tables _ _ _ record { thresholds = c .before .before .before .before .before .before .before .before .before .before .before .before .before .thresholds .ensures; near = c .before .before .before .before .before .before .before .before .before .before .before .before .near-steps .ensures } (c .before .before .before .before .before .before .before .before .before .before .before .rows .ensures), either-wide (c .before .before .before .before .before .before .before .before .before .before .before .before .before .before .before .before .before .before .before .next-here .result) _ (a .args .bytes .now) (c .before .before .before .before .before .before .before .before .before .before .before .before .before .before .before .before .enter .last .1 .1 .1 .0) _ (a .args .from) (e .next) (e .stays ∙ a .pre .1) (c .before .before .before .before .before .before .before .before .source .ensures))
+    let a = c .before .before .before .before .before .before .before .before .before .before .before .before .before .before .before .before in
+    let e = entered-at (c .before .before .before .before .before .before .before .before .before .before) in
+    either-wide (c .before .before .before .before .before .before .before .before .before .before .before .before .before .next-here .result) _ (a .args .bytes .now) (c .before .before .before .before .before .before .before .before .before .before .enter .last .1 .1 .1 .0) _ (a .args .from) (e .next) (e .stays ∙ a .pre .1) (c .before .before .before .before .before .source .ensures)
 
 clear-requires : tie.Need-clear-requires
 clear-requires c κs = search needs
@@ -81,12 +71,12 @@ taken-from-requires : tie.Need-taken-from-requires
 taken-from-requires c κs = search needs
 
 add-end : tie.Need-add-end
-add-end c = omega (arith, there-at c, c .before .before .before .before .before .before .before .before .before .before .before .before .before .before .before .before .before .before .before .before .before .before .before .before .before .before .before .good)
+add-end c = omega (arith, there-at c, c .before .before .before .before .before .before .before .before .before .before .before .before .before .before .before .before .before .before .before .before .before .good)
 
 returns : tie.Need-returns
 returns c =
     let r = c .before .before .before .before .read-records .ensures in
-    (there-at c, rw (c .before .before .clear .ensures, c .taken-from .ensures) (either-read _ _ _ _ _ _ _ _ _ _ _ _ _ _ _ (entered-at (c .before .before .before .before .before .before .before .before .before .before .before .before .before .before .before .before .before .before .before .before .before)) (c .before .before .before .before .before .before .before .before .before .before .before .before .before .before .before .before .before .before .before .if1 .taken) (c .before .before .before .before .before .before .before .before .before .before .before .before .before .source .ensures) (r .0) (r .1)))
+    (there-at c, rw (c .before .before .clear .ensures, c .taken-from .ensures) (either-read _ _ _ _ _ _ _ _ _ _ _ _ _ _ _ (entered-at (c .before .before .before .before .before .before .before .before .before .before .before .before .before .before .before)) (c .before .before .before .before .before .before .before .before .before .before .before .before .before .if1 .taken) (c .before .before .before .before .before .before .before .before .before .before .source .ensures) (r .0) (r .1)))
 
 add-next : tie.Need-add-next
 add-next c = search needs
@@ -106,9 +96,6 @@ read-on-spec =
     part-enter-start
     part-enter-end
     enter-requires
-    thresholds-requires
-    near-steps-requires
-    rows-requires
     sub-source
     part-source-start
     part-source-end

@@ -12,11 +12,11 @@ use Rattle.study.proofs.whole.read_records.Statement.{statement}
 use Rattle.study.proofs.whole.read_records.Tie as tie
 
 abbrev Inv-loop : tie.InvT-loop
-Inv-loop table near rows bytes stack₀ sums₀ margins₀ facts₀ kinds₀ core₀ at₀ stack sums margins facts kinds core at =
+Inv-loop bytes stack₀ sums₀ margins₀ facts₀ kinds₀ core₀ at₀ stack sums margins facts kinds core at =
     Standing bytes at × ((q : List ℕ) → Reached (state (withKinds core₀ kinds₀) q stack₀ sums₀ margins₀ facts₀) (state (withKinds core kinds) q stack sums margins facts) bytes at)
 
 abbrev μ-loop : tie.MeasureT-loop
-μ-loop table near rows bytes stack₀ sums₀ margins₀ facts₀ kinds₀ core₀ at₀ stack sums margins facts kinds core at = length bytes - at
+μ-loop bytes stack₀ sums₀ margins₀ facts₀ kinds₀ core₀ at₀ stack sums margins facts kinds core at = length bytes - at
 
 -- what a turn reads
 some-at : (c : tie.After-read-some Inv-loop μ-loop) → Records (drop (c .before .before .before .before .before .before .before .before .loop .at) (c .before .before .before .before .before .before .before .before .before .before .args .bytes .now)) (c .read-some .result .at)
@@ -31,7 +31,7 @@ next-at : (c : tie.Then1 Inv-loop μ-loop) → Next (c .before .before .before .
 next-at c = rw (rest-is (c .before .before .before .before .before .before .before .before .before .before .before .before .before .before .before .args .bytes .now) (c .before .before .before .before .before .before .before .before .before .before .before .before .before .loop .at + c .before .before .before .before .before .read-some .result .at)) at (c .before .next-here .ensures (c .if1 .taken))
 
 loop-holds : tie.Need-loop-holds Inv-loop μ-loop
-loop-holds c = (standing-start _ (c .before .pre .1), λ q. reached-start _ _)
+loop-holds c = (standing-start _ (c .before .pre), λ q. reached-start _ _)
 
 sub-loop : tie.Need-sub-loop Inv-loop μ-loop
 sub-loop c = omega (arith, c .loop .inv .0 .room)
@@ -49,7 +49,7 @@ read-some-requires : tie.Need-read-some-requires Inv-loop μ-loop
 read-some-requires c κs =
     let v = c .before .before .before .before .before .before .before .loop in
     let l = c .before .before .before .before .before .before .before .before .before .args .bytes .now in
-    (c .before .before .before .before .before .before .before .before .before .pre .0, rw (rest-is l (v .at)) (omega (arith, length-drop (v .at) l, v .inv .0 .room)))
+    rw (rest-is l (v .at)) (omega (arith, length-drop (v .at) l, v .inv .0 .room))
 
 add-at : tie.Need-add-at Inv-loop μ-loop
 add-at c = omega (arith, records-at (c .before .before) .there, c .before .before .before .before .before .before .before .before .before .before .before .before .good)

@@ -24,7 +24,7 @@ returns-2 c =
     let a = c .before .before .before .before .before in
     let l = a .args .bytes .now in
     let n = c .read-other .ensures .0 in
-    (records-alone l _ n (a .pre .1), λ q. read-alone _ _ q _ _ _ _ l _ n (c .read-other .ensures .1 (a .args .kinds .now) q _ _ _))
+    (records-alone l _ n (a .pre), λ q. read-alone _ _ q _ _ _ _ l _ n (c .read-other .ensures .1 (a .args .kinds .now) q _ _ _))
 
 pub read-some-spec : {M : Type 1} → statement M
 read-some-spec =
