@@ -1,4 +1,4 @@
-// The desk for programs in other languages: the study's own calls, each with the contract it has in Rattle. (include/riskdesk.h)
+// The study's calls for programs in other languages (include/riskdesk.h), each with the contract that it has in Rattle.
 ghost use mathlib.Core.Path.{_≡_};
 ghost use Rattle.model.specs.Calls.{piece, totals, target, domino, tookPiece, gaveTotals, gaveTarget, gaveDomino};
 ghost use Rattle.model.specs.Machine.{fresh};
@@ -9,7 +9,6 @@ use state::TargetReport;
 use state::Totals;
 use study::Answer;
 use study::Study;
-use study::Taken;
 
 // A study of which nothing is read yet.
 #[no_mangle]
@@ -19,15 +18,7 @@ pub extern "C" fn riskdesk_fresh() -> Study
     Study::fresh()
 }
 
-// Reads a piece.
-#[no_mangle]
-pub extern "C" fn riskdesk_piece(study: Study, bytes: &[u8]) -> Taken
-    ensures { λ r. ⌜ Called study (piece (now (bytes .entry))) (tookPiece (r .number) (r .place)) (r .study) ⌝ }
-{
-    study.piece(bytes)
-}
-
-// Reads a piece, into a study that the caller lends.
+// Reads a piece into a study that the caller lends.
 #[no_mangle]
 pub extern "C" fn riskdesk_feed(study: &mut Study, bytes: &[u8]) -> Answer
     ensures { λ r. ⌜ Called (now (study .entry)) (piece (now (bytes .entry))) (tookPiece (r .number) (r .place)) (now (study .exit)) ⌝ }
@@ -57,4 +48,12 @@ pub extern "C" fn riskdesk_domino(study: Study, list: &mut [u16]) -> DominoRepor
     ensures { λ r. ⌜ Called study (domino (now (list .entry))) (gaveDomino r (now (list .exit))) study ⌝ }
 {
     study.domino(list)
+}
+
+// The version of the layout that the structs have in memory: the header and the bindings say which one they know.
+#[no_mangle]
+pub extern "C" fn riskdesk_layout() -> u32
+    ensures { λ r. ⌜ r ≡ 1 ⌝ }
+{
+    1
 }

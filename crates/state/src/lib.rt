@@ -77,7 +77,6 @@ pub struct Core {
 }
 
 // What a study keeps of one target: its sum, its margin, and its facts packed with its mark on the domino list.
-#[repr(C)]
 pub struct Row {
     pub sum: u64,
     pub margin: u32,

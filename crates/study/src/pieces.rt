@@ -6,7 +6,6 @@ use crate::into::Answer;
 use crate::into::feed_into;
 
 // A piece is read: the study after it, with the number and the place of the answer.
-#[repr(C)]
 pub struct Taken {
     pub study: Study,
     pub number: u8,
