@@ -14,7 +14,6 @@ pub mod record;
 pub mod replay;
 pub mod report;
 pub mod study;
-pub mod text;
 pub mod volume;
 
 pub use report::{Report, Standing, TargetFigures, Totals, report_text, report_text_of_pieces};

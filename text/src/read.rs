@@ -1,0 +1,227 @@
+//! From text to bytes.
+
+use crate::form::{CLOSING, FORMS, Field, Form, LEAK, OUTCOME, RAW};
+use crate::parts::parts;
+use std::fmt;
+
+/// The numbers that a text may have.
+#[derive(Clone, Copy, Debug, PartialEq, Eq)]
+pub enum Limits {
+    /// Those within the bounds that the rules give a field.
+    Rules,
+    /// All that fit the field's bytes.
+    Bytes,
+}
+
+/// An error in the text: its line, counted from 1, and what was expected.
+#[derive(Clone, Debug, PartialEq, Eq)]
+pub struct TextError {
+    pub line: usize,
+    pub message: String,
+}
+
+impl fmt::Display for TextError {
+    fn fmt(&self, f: &mut fmt::Formatter) -> fmt::Result {
+        write!(f, "line {}: {}", self.line, self.message)
+    }
+}
+
+impl std::error::Error for TextError {}
+
+/// The text of a file in UTF-8, a byte order mark passed over.
+pub fn to_text(bytes: &[u8]) -> Result<&str, TextError> {
+    let error = |front: &[u8], message: &str| TextError {
+        line: lines(&String::from_utf8_lossy(front)).count().max(1),
+        message: message.into(),
+    };
+    if bytes.starts_with(b"\xff\xfe") || bytes.starts_with(b"\xfe\xff") {
+        return Err(error(b"", "expected text in UTF-8, found UTF-16"));
+    }
+    if bytes.first().is_some_and(|&byte| byte < b'\t') {
+        let message = "expected text, found the bytes of a study: `study show` makes text of them";
+        return Err(error(b"", message));
+    }
+    let bytes = bytes.strip_prefix(b"\xef\xbb\xbf").unwrap_or(bytes);
+    std::str::from_utf8(bytes).map_err(|wrong| {
+        let front = &bytes[..=wrong.valid_up_to()];
+        error(front, "expected text in UTF-8")
+    })
+}
+
+/// The lines of a text: a line feed, a carriage return or both end a line.
+fn lines(text: &str) -> impl Iterator<Item = &str> {
+    let mut rest = text;
+    std::iter::from_fn(move || {
+        if rest.is_empty() {
+            return None;
+        }
+        let end = rest.find(['\n', '\r']).unwrap_or(rest.len());
+        let (line, after) = rest.split_at(end);
+        let after = after.strip_prefix("\r\n").or_else(|| after.get(1..));
+        rest = after.unwrap_or_default();
+        Some(line)
+    })
+}
+
+/// The bytes of a study given as text.
+pub fn to_bytes(text: &str, limits: Limits) -> Result<Vec<u8>, TextError> {
+    let mut writer = Writer {
+        limits,
+        bytes: Vec::new(),
+        outcome: None,
+    };
+    for (line, number) in lines(text).zip(1..) {
+        let line = line.split('#').next().unwrap_or_default();
+        let words: Vec<&str> = line.split_whitespace().collect();
+        writer.line(&words).map_err(|message| TextError {
+            line: number,
+            message,
+        })?;
+    }
+    Ok(writer.bytes)
+}
+
+/// The bytes so far, and the kind of the last outcome, if it is known.
+struct Writer {
+    limits: Limits,
+    bytes: Vec<u8>,
+    outcome: Option<u64>,
+}
+
+impl Writer {
+    fn line(&mut self, words: &[&str]) -> Result<(), String> {
+        let Some((&first, values)) = words.split_first() else {
+            return Ok(());
+        };
+        if first == RAW {
+            return self.raw(values);
+        }
+        let form = FORMS
+            .iter()
+            .find(|form| form.word == first)
+            .ok_or_else(|| unknown_word(first))?;
+        if form.kind == CLOSING && values.is_empty() {
+            return self.closing();
+        }
+        self.bytes.push(form.kind);
+        let numbers = self.fields(form, values)?;
+        if form.kind == OUTCOME {
+            self.outcome = Some(numbers[0]);
+        }
+        Ok(())
+    }
+
+    fn fields(&mut self, form: &Form, values: &[&str]) -> Result<Vec<u64>, String> {
+        let mut numbers = Vec::with_capacity(form.fields.len());
+        let mut values = values.iter();
+        for field in form.fields {
+            let &value = values.next().ok_or_else(|| {
+                let Field { name, .. } = field;
+                format!("expected {}: the {name} is missing", layout(form))
+            })?;
+            let number = self.number(field, &numbers, value)?;
+            let bytes = number.to_be_bytes();
+            self.bytes.extend_from_slice(&bytes[8 - field.width..]);
+            numbers.push(number);
+        }
+        match values.next() {
+            Some(more) => Err(format!(
+                "expected {} and nothing more, found '{}'",
+                layout(form),
+                more.escape_debug()
+            )),
+            None => Ok(numbers),
+        }
+    }
+
+    /// The number that a word or digits stand for, after these fields of the
+    /// same record.
+    fn number(&self, field: &Field, earlier: &[u64], value: &str) -> Result<u64, String> {
+        let digits = value.bytes().all(|byte| byte.is_ascii_digit());
+        let word = field.words.iter().position(|word| *word == value);
+        let number = match word {
+            Some(position) => Some(position as u64),
+            None if digits => value.parse().ok(),
+            None => None,
+        };
+        let bounds = field.rule.bounds(earlier, self.outcome);
+        let (expected, single) = match self.limits {
+            Limits::Rules => (bounds.to_string(), bounds.single()),
+            Limits::Bytes => (format!("0 to {}", field.most()), false),
+        };
+        let allowed = |&number: &u64| match self.limits {
+            Limits::Rules => bounds.allow(number),
+            Limits::Bytes => number <= field.most(),
+        };
+        number.filter(allowed).ok_or_else(|| {
+            let words = match field.words {
+                [] => String::new(),
+                _ if single => String::new(),
+                words => format!("{} or ", words.join(", ")),
+            };
+            let form = if digits || !field.words.is_empty() {
+                ""
+            } else {
+                ", in digits alone"
+            };
+            let (name, value) = (field.name, value.escape_debug());
+            format!("{name}: expected {words}{expected}{form}, found '{value}'")
+        })
+    }
+
+    /// A closing with the count and sum of the records so far.
+    fn closing(&mut self) -> Result<(), String> {
+        let mut records = 1_u32;
+        let mut leaks = 0_u64;
+        for part in parts(&self.bytes) {
+            let Some(form) = part.form else { break };
+            records = records.saturating_add(1);
+            if form.kind == LEAK {
+                let frequency = form.numbers(part.bytes)[1];
+                leaks = leaks.checked_add(frequency).ok_or_else(|| {
+                    "expected leak frequencies whose sum fits 8 bytes".to_string()
+                })?;
+            }
+        }
+        self.bytes.push(CLOSING);
+        self.bytes.extend_from_slice(&records.to_be_bytes());
+        self.bytes.extend_from_slice(&leaks.to_be_bytes());
+        Ok(())
+    }
+
+    fn raw(&mut self, values: &[&str]) -> Result<(), String> {
+        if values.is_empty() {
+            return Err("expected raw BYTE ...: there is no byte".into());
+        }
+        self.outcome = None;
+        for value in values {
+            let digits = value.bytes().all(|byte| byte.is_ascii_hexdigit());
+            let byte = match value.len() {
+                2 if digits => u8::from_str_radix(value, 16).ok(),
+                _ => None,
+            };
+            let wrong = || {
+                let value = value.escape_debug();
+                format!("expected a byte of two hexadecimal digits, found '{value}'")
+            };
+            self.bytes.push(byte.ok_or_else(wrong)?);
+        }
+        Ok(())
+    }
+}
+
+fn unknown_word(word: &str) -> String {
+    let words: Vec<&str> = FORMS.iter().map(|form| form.word).collect();
+    let word = word.escape_debug();
+    format!("expected {} or {RAW}, found '{word}'", words.join(", "))
+}
+
+/// The line of a form: its word and the names of its fields.
+fn layout(form: &Form) -> String {
+    let mut line = form.word.to_string();
+    for field in form.fields {
+        line.push(' ');
+        line += &field.name.to_uppercase();
+    }
+    line
+}

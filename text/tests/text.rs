@@ -1,0 +1,328 @@
+//! From text to bytes.
+
+mod common;
+
+use common::{any, repository, ruled, specimen, vectors};
+use std::fs;
+use study_text::to_text;
+
+fn error(text: &str) -> String {
+    ruled(text).expect_err("an error").to_string()
+}
+
+fn any_error(text: &str) -> String {
+    any(text).expect_err("an error").to_string()
+}
+
+#[test]
+fn the_examples() {
+    let bytes_of = |name: &str| {
+        let file = repository().join("examples").join(name);
+        let text = fs::read_to_string(file.with_extension("txt")).unwrap();
+        let bytes = fs::read(file.with_extension("study")).unwrap();
+        assert_eq!(ruled(&text), Ok(bytes.clone()));
+        assert_eq!(any(&text), Ok(bytes.clone()));
+        bytes
+    };
+    let vectors = vectors();
+    for name in ["specimen", "resin-works"] {
+        let vector = vectors.iter().find(|vector| vector.name == name).unwrap();
+        assert_eq!(bytes_of(name), vector.study);
+    }
+    assert_eq!(bytes_of("tank-farm").len(), 125);
+}
+
+#[test]
+fn each_record_has_its_bytes() {
+    let records: [(&str, &[u8]); 8] = [
+        ("study 7", &[1, 0, 0, 0, 7]),
+        ("target 258 pipe 2 3", &[2, 1, 2, 5, 2, 0, 0, 0, 3]),
+        ("leak 1 258", &[3, 0, 0, 0, 1, 0, 0, 0, 0, 0, 0, 1, 2]),
+        ("branching 250000", &[4, 0, 3, 0xd0, 0x90]),
+        ("outcome explosion 256", &[5, 5, 1, 0]),
+        ("effect 1 70000 20", &[6, 0, 1, 0, 1, 0x11, 0x70, 0, 20]),
+        ("closing 4 7", &[7, 0, 0, 0, 4, 0, 0, 0, 0, 0, 0, 0, 7]),
+        ("raw 00 fF", &[0, 255]),
+    ];
+    for (line, bytes) in records {
+        assert_eq!(any(line).as_deref(), Ok(bytes), "{line}");
+    }
+}
+
+#[test]
+fn numbers_and_words() {
+    let words = "target 0 people outdoors 5\noutcome flash-fire 2\n";
+    let numbers = " target 0 0 1 5 # a comment\n\n# another\noutcome 4 2";
+    assert_eq!(ruled(words), ruled(numbers));
+    assert_eq!(ruled(""), Ok(vec![]));
+}
+
+#[test]
+fn a_closing_alone_and_one_given() {
+    let front = "study 1\nleak 1 7\noutcome 0 0\n";
+    let closing = |line: &str| ruled(&format!("{front}{line}")).unwrap();
+    assert_eq!(closing("closing"), closing("closing 4 7"));
+    assert_ne!(closing("closing"), closing("closing 5 8"));
+    // Records that were given as bytes count too.
+    let raw = "raw 01 00 00 00 01\nleak 1 7\nraw 05 00\nraw 00 00\nclosing";
+    assert_eq!(ruled(raw).unwrap(), closing("closing"));
+    let sum = any_error(&format!("leak 1 {}\nleak 2 1\nclosing", u64::MAX));
+    assert_eq!(
+        sum,
+        "line 3: expected leak frequencies whose sum fits 8 bytes"
+    );
+}
+
+#[test]
+fn lines_end_with_either_character_or_both() {
+    let lines = ["study 1", "", "leak 1 7", "outcome 0 0", "closing"];
+    let bytes = ruled(&lines.join("\n")).unwrap();
+    for end in ["\n", "\r", "\r\n"] {
+        assert_eq!(ruled(&lines.join(end)), Ok(bytes.clone()), "{end:?}");
+        assert_eq!(ruled(&(lines.join(end) + end)), Ok(bytes.clone()));
+        let wrong = error(&(lines.join(end) + end + end + "closed"));
+        assert!(wrong.starts_with("line 7: "), "{end:?}: {wrong}");
+    }
+    // A comment ends with its line, and two of one kind are two lines.
+    assert_eq!(ruled("study 1 # one\rclosing"), ruled("study 1\nclosing"));
+    assert!(error("\r\r\n\n\rx").starts_with("line 5: "));
+}
+
+#[test]
+fn a_byte_order_mark_is_passed_over() {
+    let text = fs::read(repository().join("examples/specimen.txt")).unwrap();
+    let marked = [b"\xef\xbb\xbf".as_slice(), &text].concat();
+    let bytes = ruled(to_text(&marked).unwrap());
+    assert_eq!(bytes, Ok(specimen()));
+    assert_eq!(to_text(b"\xef\xbb\xbf"), Ok(""));
+    // Only at the front.
+    assert!(ruled("study 1\n\u{feff}closing").is_err());
+}
+
+#[test]
+fn what_is_no_text() {
+    let wrong = |bytes: &[u8]| to_text(bytes).expect_err("an error").to_string();
+    assert_eq!(
+        wrong(b"study 1\n# m\xb3\n"),
+        "line 2: expected text in UTF-8"
+    );
+    assert_eq!(wrong(b"study 1\n\xb3"), "line 2: expected text in UTF-8");
+    assert_eq!(
+        wrong(b"\xff\xfes\0"),
+        "line 1: expected text in UTF-8, found UTF-16"
+    );
+    assert!(wrong(&specimen()).contains("`study show`"));
+    assert!(to_text(b"").is_ok());
+}
+
+#[test]
+fn errors_name_the_line_and_what_was_expected() {
+    assert_eq!(
+        error("study 1\n\nstudie 2"),
+        "line 3: expected study, target, leak, branching, outcome, effect, closing or raw, \
+         found 'studie'"
+    );
+    assert_eq!(
+        error("target 1 people 0"),
+        "line 1: expected target NUMBER CLASS SETTING VOLUME: the volume is missing"
+    );
+    assert_eq!(
+        error("study 1 2"),
+        "line 1: expected study NUMBER and nothing more, found '2'"
+    );
+    assert_eq!(
+        error("outcome fire 0"),
+        "line 1: kind: expected no-effect, pool-fire, jet-fire, fireball, flash-fire, explosion \
+         or 0 to 5, found 'fire'"
+    );
+    for value in ["-5", "+5", "1e5", "1,000", "0.5", "x"] {
+        assert_eq!(
+            error(&format!("leak 1 {value}")),
+            format!(
+                "line 1: frequency: expected 1 to 10^13, in units of 10^-13 per year, \
+                 in digits alone, found '{value}'"
+            )
+        );
+    }
+    assert!(error("raw").contains("there is no byte"));
+    assert!(error("raw 5").contains("two hexadecimal digits"));
+    assert!(error("raw +5").contains("two hexadecimal digits"));
+}
+
+/// A line with a field at each of its bounds, and outside of them with the
+/// words of the error. `{}` stands for the field.
+struct Edge {
+    line: &'static str,
+    good: &'static [&'static str],
+    bad: &'static [&'static str],
+    expected: &'static str,
+}
+
+const EDGES: [Edge; 17] = [
+    Edge {
+        line: "study {}",
+        good: &["0", "4294967295"],
+        bad: &["4294967296"],
+        expected: "number: expected 0 to 4294967295, found",
+    },
+    Edge {
+        line: "target {} people individual 0",
+        good: &["0", "255"],
+        bad: &["256", "65535"],
+        expected: "number: expected 0 to 255, found",
+    },
+    Edge {
+        line: "target 0 {} 0 0",
+        good: &["0", "5", "people", "pipe"],
+        bad: &["6", "vessel"],
+        expected: "class: expected people, atmospheric, pressurised, tower, pump, pipe or 0 to 5, found",
+    },
+    Edge {
+        line: "target 0 people {} 0",
+        good: &["0", "2", "indoors"],
+        bad: &["3", "inside"],
+        expected: "setting: expected individual, outdoors, indoors or 0 to 2, found",
+    },
+    Edge {
+        line: "target 0 pump {} 0",
+        good: &["0", "individual"],
+        bad: &["1", "outdoors"],
+        expected: "setting: expected 0 for equipment, found",
+    },
+    Edge {
+        line: "target 0 pipe 0 {}",
+        good: &["0", "100000"],
+        bad: &["100001", "4294967296"],
+        expected: "volume: expected 0 to 100000, in m³, found",
+    },
+    Edge {
+        line: "leak {} 1",
+        good: &["0", "4294967295"],
+        bad: &["4294967296"],
+        expected: "scenario: expected 0 to 4294967295, found",
+    },
+    Edge {
+        line: "leak 1 {}",
+        good: &["1", "10000000000000"],
+        bad: &[
+            "0",
+            "10000000000001",
+            "20000000000000",
+            "99999999999999999999",
+        ],
+        expected: "frequency: expected 1 to 10^13, in units of 10^-13 per year, found",
+    },
+    Edge {
+        line: "branching {}",
+        good: &["0", "1000000"],
+        bad: &["1000001"],
+        expected: "chance: expected 0 to 1000000, in millionths, found",
+    },
+    Edge {
+        line: "outcome explosion {}",
+        good: &["0", "256"],
+        bad: &["257"],
+        expected: "effects: expected 0 to 256, found",
+    },
+    Edge {
+        line: "outcome no-effect {}",
+        good: &["0"],
+        bad: &["1"],
+        expected: "effects: expected 0 for no-effect, found",
+    },
+    Edge {
+        line: "effect {} 0 0",
+        good: &["0", "65535"],
+        bad: &["65536"],
+        expected: "target: expected 0 to 65535, found",
+    },
+    Edge {
+        line: "outcome jet-fire 1 \n effect 0 {} 1",
+        good: &["0", "4294967295"],
+        bad: &["4294967296"],
+        expected: "intensity: expected 0 to 4294967295, in W/m², found",
+    },
+    Edge {
+        line: "outcome explosion 1 \n effect 0 {} 0",
+        good: &["0", "4294967295"],
+        bad: &["4294967296"],
+        expected: "intensity: expected 0 to 4294967295, in Pa, found",
+    },
+    Edge {
+        line: "outcome flash-fire 1 \n effect 0 {} 0",
+        good: &["0", "1"],
+        bad: &["2"],
+        expected: "intensity: expected 0 or 1 (1 inside the lower flammable limit), found",
+    },
+    Edge {
+        line: "outcome fireball 1 \n effect 0 0 {}",
+        good: &["1", "65535"],
+        bad: &["0", "65536"],
+        expected: "duration: expected 1 to 65535, in seconds, found",
+    },
+    Edge {
+        line: "outcome explosion 1 \n effect 0 0 {}",
+        good: &["0"],
+        bad: &["1"],
+        expected: "duration: expected 0 for an explosion, found",
+    },
+];
+
+#[test]
+fn bounds_of_the_rules_are_errors() {
+    for edge in EDGES {
+        for value in edge.good {
+            let text = edge.line.replace("{}", value);
+            assert!(ruled(&text).is_ok(), "{text}: {}", error(&text));
+        }
+        for value in edge.bad {
+            let text = edge.line.replace("{}", value);
+            let line = text.lines().count();
+            let expected = format!("line {line}: {} '{value}'", edge.expected);
+            assert_eq!(error(&text), expected, "{text}");
+        }
+    }
+}
+
+#[test]
+fn any_number_that_fits_its_bytes() {
+    let fitting = [
+        "target 65535 255 255 4294967295",
+        "leak 1 0",
+        "leak 1 18446744073709551615",
+        "branching 4294967295",
+        "outcome 255 65535",
+        "outcome flash-fire 1\neffect 0 2 65535",
+        "outcome pool-fire 1\neffect 0 0 0",
+    ];
+    for text in fitting {
+        assert!(any(text).is_ok(), "{text}");
+        assert!(ruled(text).is_err(), "{text}");
+    }
+    assert_eq!(
+        any_error("leak 1 18446744073709551616"),
+        "line 1: frequency: expected 0 to 18446744073709551615, found '18446744073709551616'"
+    );
+    assert_eq!(
+        any_error("target 0 256 0 0"),
+        "line 1: class: expected people, atmospheric, pressurised, tower, pump, pipe or 0 to 255, \
+         found '256'"
+    );
+}
+
+/// What depends on other records is for the desk to refuse.
+#[test]
+fn numbering_order_and_closing_are_no_errors() {
+    for text in [
+        "target 9 people individual 0",
+        "study 1\nstudy 2",
+        "leak 5 1\nleak 5 1",
+        "effect 300 0 0",
+        "outcome no-effect 0\neffect 0 70000 600",
+        "closing 0 0",
+        "closing 4294967295 18446744073709551615",
+        "outcome flash-fire 1\nraw 05 05 00 01\neffect 0 70000 0",
+    ] {
+        assert!(ruled(text).is_ok(), "{text}: {}", error(text));
+    }
+}
