@@ -27,6 +27,9 @@
  *   at as many elements as the length says, at most PTRDIFF_MAX bytes. Bytes do not overlap the study.
  * - riskdesk_layout() is RISKDESK_LAYOUT; compare them once, before the first study.
  *
+ * In the repository docs/FORMAT.md describes the bytes of a study, docs/RULES.md what is refused and what
+ * the figures mean.
+ *
  * The answers and figures are proved of the archive's code (crates/riskdesk), on these conditions. That
  * the structs below have its layout is tested (tools/try-library).
  */

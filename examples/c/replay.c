@@ -1,4 +1,4 @@
-/* Answers lists of calls on a study, one line a call, as the program replay does (see README.md), from C
+/* Answers lists of calls on a study, one line a call, as the program replay does (docs/REPLAY.md), from C
  * (or C++). It shows every call of the library, refused ones too.
  *
  *     cc examples/c/replay.c -Iinclude target/staticlib/libriskdesk.a -o replay

@@ -32,9 +32,9 @@
 //! # Ok::<(), riskdesk::Answer>(())
 //! ```
 //!
-//! Frequencies, sums and totals count in units of 10^-13 per year. The
-//! repository's README describes the bytes of a study; `include/riskdesk.h` the
-//! same calls for C.
+//! Frequencies, sums and totals count in units of 10^-13 per year. In the
+//! repository docs/FORMAT.md describes the bytes of a study, docs/RULES.md what
+//! is refused and what the figures mean, include/riskdesk.h the calls for C.
 
 #![warn(missing_docs)]
 #![deny(unsafe_code)]
