@@ -6,8 +6,8 @@ use std::fmt::Debug;
 use second_desk::Answer;
 use second_desk::record::number;
 
-use crate::desks::{Desk, First};
 use crate::plain;
+use crate::readers::{Desk, StudyReader};
 use crate::studies::Input;
 
 /// The closing record's length.
@@ -23,65 +23,46 @@ struct Case {
     refusal: Option<Answer>,
 }
 
-/// The input, and five others that are made of it by a change at one place.
-fn cases(input: &Input) -> Vec<Case> {
-    let length = input.bytes.len();
-    let closing = length - CLOSING;
-    let first_leak = 5 + 9 * usize::from(input.targets);
-    let case = |name, change: &dyn Fn(&mut Vec<u8>), last: (u8, usize), refusal: u8| {
-        let mut bytes = input.bytes.clone();
-        change(&mut bytes);
+impl Case {
+    /// The input's bytes; `last` is the number of the last piece's answer,
+    /// `reports` that of every report.
+    fn new(input: &Input, name: &'static str, last: u8, reports: u8, place: usize) -> Case {
         let answer = |number| Answer {
             number,
-            place: last.1 as u64,
+            place: place as u64,
         };
         Case {
             name,
-            bytes,
-            last: answer(last.0),
-            refusal: (refusal != number::TAKEN).then_some(answer(refusal)),
+            bytes: input.bytes.clone(),
+            last: answer(last),
+            refusal: (reports != number::TAKEN).then_some(answer(reports)),
         }
-    };
-    let unknown = number::UNKNOWN_KIND;
-    let differs = number::CLOSING_DIFFERS;
-    vec![
-        case("whole", &|_| (), (0, length), 0),
-        case(
-            "first leak",
-            &|b| b[first_leak] = 9,
-            (unknown, first_leak),
-            unknown,
-        ),
-        case(
-            "last kind",
-            &|b| b[closing] = 9,
-            (unknown, closing),
-            unknown,
-        ),
-        case(
-            "other sum",
-            &|b| b[length - 1] ^= 1,
-            (differs, closing),
-            differs,
-        ),
-        case(
-            "cut short",
-            &|b| b.truncate(length - 1),
-            (0, length - 1),
-            number::NOT_CLOSED,
-        ),
-        case(
-            "byte after the end",
-            &|b| b.push(0),
-            (number::AFTER_CLOSING, length),
-            0,
-        ),
-    ]
+    }
+}
+
+/// The input, and five others that are made of it by a change at one place.
+fn cases(input: &Input) -> [Case; 6] {
+    let length = input.bytes.len();
+    let closing = length - CLOSING;
+    let leak = 5 + 9 * usize::from(input.targets);
+    let case = |name, last, reports, place| Case::new(input, name, last, reports, place);
+    let whole = case("whole", 0, 0, length);
+    let mut first_leak = case("kind of the first leak", 1, 1, leak);
+    first_leak.bytes[leak] = 9;
+    let mut last_kind = case("kind of the closing record", 1, 1, closing);
+    last_kind.bytes[closing] = 9;
+    let mut other_sum = case("sum of the closing record", 6, 6, closing);
+    other_sum.bytes[length - 1] ^= 1;
+    let mut cut = case("last byte missing", 0, 8, length - 1);
+    cut.bytes.truncate(length - 1);
+    let mut longer = case("byte after the end", 7, 0, length);
+    longer.bytes.push(0);
+    [whole, first_leak, last_kind, other_sum, cut, longer]
 }
 
 /// A study in all three readers.
 struct Three {
-    first: First,
+    desk: Desk,
     plain: plain::Reader,
     second: second_desk::Study,
 }
@@ -97,25 +78,25 @@ impl Three {
     }
 
     fn feed(&mut self, piece: &[u8]) -> Result<Answer, String> {
-        let first = Desk::feed(&mut self.first, piece);
-        let plain = Desk::feed(&mut self.plain, piece);
+        let desk = StudyReader::feed(&mut self.desk, piece);
+        let plain = StudyReader::feed(&mut self.plain, piece);
         Three::same(
             "a piece",
-            [first, plain, Desk::feed(&mut self.second, piece)],
+            [desk, plain, StudyReader::feed(&mut self.second, piece)],
         )
     }
 
     /// Whether every report is as expected. Gives how many sums are above 0.
     fn reports(&self, targets: u16, refusal: Option<Answer>) -> Result<usize, String> {
         let Three {
-            first,
+            desk,
             plain,
             second,
         } = self;
         let totals = [
-            Desk::totals(first),
-            Desk::totals(plain),
-            Desk::totals(second),
+            StudyReader::totals(desk),
+            StudyReader::totals(plain),
+            StudyReader::totals(second),
         ];
         let totals = Three::same("totals", totals)?;
         if totals.err() != refusal {
@@ -124,9 +105,9 @@ impl Three {
         let mut above = 0;
         for number in 0..=targets {
             let figures = [
-                Desk::target(first, number),
-                Desk::target(plain, number),
-                Desk::target(second, number),
+                StudyReader::target(desk, number),
+                StudyReader::target(plain, number),
+                StudyReader::target(second, number),
             ];
             let figures = Three::same(&format!("target {number}"), figures)?;
             let missing = number == targets && refusal.is_none();
@@ -143,9 +124,9 @@ impl Three {
 /// One case in pieces of one size. Gives how many sums are above 0.
 fn check_case(case: &Case, size: usize, targets: u16) -> Result<usize, String> {
     let mut three = Three {
-        first: Desk::fresh(),
-        plain: Desk::fresh(),
-        second: Desk::fresh(),
+        desk: StudyReader::fresh(),
+        plain: StudyReader::fresh(),
+        second: StudyReader::fresh(),
     };
     let mut last = three.feed(&[])?;
     for piece in case.bytes.chunks(size) {

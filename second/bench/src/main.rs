@@ -7,14 +7,14 @@ compile_error!(
 );
 
 mod check;
-mod desks;
 mod plain;
+mod readers;
 mod studies;
 
 use std::hint::black_box;
 use std::time::Instant;
 
-use desks::{First, read};
+use readers::{Desk, read};
 use studies::Input;
 
 const SEED: u64 = 4745;
@@ -45,31 +45,31 @@ fn measure(input: &Input, size: usize) {
     let mut times = [const { Vec::new() }; 4];
     for run in 0..RUNS {
         let target = run as u16 % input.targets;
-        let (first_time, first) = seconds(|| read::<First>(bytes, size, target));
+        let (desk_time, desk) = seconds(|| read::<Desk>(bytes, size, target));
         let (plain_time, plain) = seconds(|| read::<plain::Reader>(bytes, size, target));
         let (second_time, second) = seconds(|| read::<second_desk::Study>(bytes, size, target));
         let (pass_time, _) = seconds(|| plain_pass(bytes));
         assert!(second.is_ok(), "a timed study is refused");
-        assert_eq!(first, second, "reports in a timed run");
+        assert_eq!(desk, second, "reports in a timed run");
         assert_eq!(plain, second, "reports in a timed run");
-        times[0].push(first_time);
+        times[0].push(desk_time);
         times[1].push(plain_time);
         times[2].push(second_time);
         times[3].push(pass_time);
     }
-    let [first, plain, second, pass] = times.map(|mut times| median(&mut times));
+    let [desk, plain, second, pass] = times.map(|mut times| median(&mut times));
     let rate = |time: f64| bytes.len() as f64 / 1e6 / time;
     println!(
         "{:<16} {:>6} {:>8.1} {:>11.1} {:>8.1} {:>8.1} {:>18.2} {:>12.2} {:>12.2}",
         input.name,
         size,
-        rate(first),
+        rate(desk),
         rate(plain),
         rate(second),
         rate(pass),
-        first / plain,
-        first / second,
-        first / pass
+        desk / plain,
+        desk / second,
+        desk / pass
     );
 }
 
@@ -116,7 +116,7 @@ fn main() {
         }
     }
     println!();
-    println!("state of the Rattle study: {} bytes", size_of::<First>());
+    println!("state of the Rattle study: {} bytes", size_of::<Desk>());
     println!(
         "state of the Rust study: {} bytes",
         size_of::<second_desk::Study>()

@@ -7,7 +7,7 @@ use crate::plain;
 
 /// A study being read by one of the readers. Where a report is refused there
 /// are no figures, but a number and a place.
-pub trait Desk {
+pub trait StudyReader {
     fn fresh() -> Self;
     fn feed(&mut self, bytes: &[u8]) -> Answer;
     fn totals(&self) -> Result<Totals, Answer>;
@@ -17,13 +17,13 @@ pub trait Desk {
 /// The desk, by the crate in bindings/rust. It costs no time beside the archive's
 /// own calls: its `feed` becomes the call of `riskdesk_feed` in the loop below.
 #[cfg(feature = "desk")]
-pub type First = riskdesk::Study;
+pub type Desk = riskdesk::Study;
 
 #[cfg(not(feature = "desk"))]
-pub type First = second_desk::Study;
+pub type Desk = second_desk::Study;
 
 #[cfg(feature = "desk")]
-mod first {
+mod desk {
     use riskdesk::{Standing, Study};
     use second_desk::{Answer, TargetFigures, Totals};
 
@@ -32,7 +32,7 @@ mod first {
         Answer { number, place }
     }
 
-    impl super::Desk for Study {
+    impl super::StudyReader for Study {
         fn fresh() -> Study {
             Study::fresh()
         }
@@ -72,7 +72,7 @@ mod first {
 /// The second implementation and the straightforward reader.
 macro_rules! reader_in_rust {
     ($reader:ty) => {
-        impl Desk for $reader {
+        impl StudyReader for $reader {
             fn fresh() -> $reader {
                 <$reader>::new()
             }
@@ -101,12 +101,12 @@ reader_in_rust!(plain::Reader);
 /// A fresh study is fed the bytes in pieces up to the first refusal. Then the
 /// totals and one target's figures are asked.
 #[inline(never)]
-pub fn read<D: Desk>(
+pub fn read<R: StudyReader>(
     bytes: &[u8],
     size: usize,
     target: u16,
 ) -> Result<(Totals, TargetFigures), Answer> {
-    let mut study = D::fresh();
+    let mut study = R::fresh();
     for piece in bytes.chunks(size) {
         let answer = study.feed(piece);
         if answer.number != 0 {
