@@ -1,0 +1,6 @@
+//! The crate on the stored vectors and lists of calls.
+
+mod calls;
+mod common;
+mod layout;
+mod vectors;
