@@ -8,10 +8,12 @@ use lib.ListN.{getD}
 use lib.Count.{leadingZeros}
 use Rattle.numeric.specs.Choice.{ifLt}
 use Rattle.numeric.proofs.ChoiceLaws.{lt-case, ge-case}
+use Rattle.thresholds.specs.Thresholds.{thresholds}
+use Rattle.thresholds.proofs.Laws.{right-thresholds}
 use Rattle.log2.specs.Logarithm.{logarithm}
-use Rattle.log2.specs.Tables.{NearStep, NearSteps, LogTables, stepBy, thresholds, nearSteps, RightTables}
+use Rattle.log2.specs.Tables.{NearStep, NearSteps, LogTables, stepBy, nearSteps, RightTables}
 use Rattle.log2.proofs.Laws.{log-scaled, Scaled, scaled}
-use Rattle.log2.proofs.TableSteps.{thresholds-at, near-steps-at, at-near, at-before}
+use Rattle.log2.proofs.TableSteps.{near-steps-at, at-near, at-before}
 
 near-at : (l : List ℕ) (b : ℕ) → NearSteps l → b < 512 → NearStep b (getD l b 0)
 unfolding NearSteps
@@ -38,7 +40,7 @@ module _ (t l : List ℕ) (n z : ℕ) where
           rw (← f) (log-scaled n _ z _ (q .few) refl (at-before t _ _ _ (h .thresholds) s (omega (arith, q .low)) (omega (arith, q .low)) (omega arith)) ∙ omega (arith, s .first))
 
 pub right-tables : RightTables
-right-tables = record { thresholds = thresholds-at thresholds refl tt; near = near-steps-at nearSteps refl tt }
+right-tables = record { thresholds = right-thresholds; near = near-steps-at nearSteps refl tt }
 
 -- so the step of a number's mantissa is L
 pub log-by-step : (n : ℕ) → 0 < n → n < 2 ^ 32 → stepBy thresholds nearSteps ((31 - leadingZeros 32 n) * 256) (n * 2 ^ leadingZeros 32 n) ≡ logarithm n

@@ -1,4 +1,4 @@
--- The tables' rules, each one computed test over all of its cases. Assumes nothing.
+-- The rule of the near steps, one computed test over all of them. Assumes nothing.
 use mathlib.Core.Path.{_≡_}
 use mathlib.Core.Bool.{Bool, true, false}
 use mathlib.Core.List.{List}
@@ -10,7 +10,8 @@ use lib.Pow.{pow-mono}
 use lib.Dec.{T, leb, ltb, leb→le, ltb→lt}
 use lib.ListN.{length, getD}
 use Rattle.numeric.proofs.TableLaws.{both, both-left, both-right, every, entry, getD-entry, at}
-use Rattle.log2.specs.Tables.{Threshold, Thresholds, NearStep, OneNearStep, NearSteps, StepOf}
+use Rattle.thresholds.specs.Thresholds.{Threshold, Thresholds}
+use Rattle.log2.specs.Tables.{NearStep, OneNearStep, NearSteps, StepOf}
 
 -- one of two tests passes
 abbrev either : Bool → Bool → Bool
@@ -20,30 +21,6 @@ either false b = b
 either-right : (a b : Bool) → T (either a b) → (T a → ⊥) → T b
 either-right true b t n = absurd (n tt)
 either-right false b t n = t
-
--- the entry reaches its step, and one less doesn't
-abbrev pub least : ℕ → ℕ → Bool
-least k x = both (leb (2 ^ (31 * 256 + k)) (x ^ 256)) (ltb ((x - 1) ^ 256) (2 ^ (31 * 256 + k)))
-
-threshold-of : (k x : ℕ) → T (least k x) → Threshold k x
-threshold-of k x t =
-    let p : ℕ = 2 ^ (31 * 256 + k) in
-    let l : p ≤ x ^ 256 = leb→le _ _ (both-left (leb p (x ^ 256)) (ltb ((x - 1) ^ 256) p) t) in
-    let u : (x - 1) ^ 256 < p = ltb→lt _ _ (both-right (leb p (x ^ 256)) (ltb ((x - 1) ^ 256) p) t) in
-    record { reaches = l; least = λ m h. go m h (decLe x m) u }
-  where
-    go : (m : ℕ) → 2 ^ (31 * 256 + k) ≤ m ^ 256 → Dec (x ≤ m) → (x - 1) ^ 256 < 2 ^ (31 * 256 + k) → x ≤ m
-    go m h (yes d) u = d
-    go m h (no d) u =
-        let e : m ≤ x - 1 = omega arith in
-        let v : m ^ 256 ≤ (x - 1) ^ 256 = pow-le-pow-left e 256 in
-        let z : ⊥ = omega arith in
-        absurd z
-
--- each entry of a table that passes the test is the threshold of its step
-pub thresholds-at : (xs : List ℕ) → length xs ≡ 256 → T (every least 0 xs) → Thresholds xs
-unfolding Thresholds
-thresholds-at xs e t k h = rw (getD-entry xs k) (threshold-of k (entry xs k) (at least xs t k (omega arith)))
 
 -- a mantissa below a threshold doesn't reach the step
 below-threshold : (k x m : ℕ) → Threshold k x → m < x → m ^ 256 < 2 ^ (31 * 256 + k)

@@ -8,8 +8,9 @@ use lib.Count.{leadingZeros}
 use borrow.Author.Needs.{needs}
 use Rattle.numeric.specs.Choice.{ifLt}
 use Rattle.numeric.proofs.ChoiceLaws.{lt-case, ge-case}
+use Rattle.thresholds.specs.Thresholds.{thresholds}
 use Rattle.log2.specs.Logarithm.{logarithm}
-use Rattle.log2.specs.Tables.{thresholds, nearSteps, stepBy}
+use Rattle.log2.specs.Tables.{nearSteps, stepBy}
 use Rattle.log2.proofs.Laws.{Scaled, scaled, scaled-few, logarithm-small, logarithm-le}
 use Rattle.log2.proofs.Carried.{log-by-step}
 use Rattle.log2.proofs.l.Statement.{statement}
