@@ -1,4 +1,5 @@
-//! From probit to chance, by table D.3 of source document 000.
+//! From probit to chance, by table D.3 of source document 000 with the two
+//! entries of request P2 of document 02.
 
 /// Table D.3 in hundredths, from 1 % to 99 % by 1 %.
 const WHOLE: [u16; 99] = [
@@ -14,8 +15,9 @@ const WHOLE: [u16; 99] = [
     628, 634, 641, 648, 655, 664, 675, 688, 705, 733, // from 90
 ];
 
-/// Table D.3 in hundredths, from 99.1 % to 99.9 % by 0.1 %.
-const TENTHS: [u16; 9] = [737, 741, 746, 751, 758, 758, 765, 788, 809];
+/// Table D.3 in hundredths, from 99.1 % to 99.9 % by 0.1 %; 99.6 % and 99.7 % are
+/// those of request P2.
+const TENTHS: [u16; 9] = [737, 741, 746, 751, 758, 765, 775, 788, 809];
 
 const FIRST: usize = WHOLE[0] as usize;
 const LAST: usize = TENTHS[8] as usize;
@@ -83,25 +85,28 @@ mod tests {
         assert_eq!(entries.len(), 108);
         for (i, &(y, percentage)) in entries.iter().enumerate() {
             let probit = i64::from(y) * 10_000;
-            let next = entries.get(i + 1).map(|&(y, _)| y);
-            if next != Some(y) {
-                assert_eq!(chance(probit), percentage);
-                assert_eq!(chance(probit + 9_999), percentage);
-            }
-            if i > 0 && entries[i - 1].0 != y {
+            assert_eq!(chance(probit), percentage);
+            assert_eq!(chance(probit + 9_999), percentage);
+            if i > 0 {
                 assert_eq!(chance(probit - 1), entries[i - 1].1);
             }
         }
     }
 
     #[test]
-    fn the_ends_and_the_double_entry() {
+    fn the_ends_and_the_entries_of_p2() {
         assert_eq!(chance(i64::from(i32::MIN)), 0);
         assert_eq!(chance(0), 0);
         assert_eq!(chance(2_669_999), 0);
         assert_eq!(chance(2_670_000), 10_000);
         assert_eq!(chance(7_579_999), 994_000);
-        assert_eq!(chance(7_580_000), 996_000);
+        assert_eq!(chance(7_580_000), 995_000);
+        assert_eq!(chance(7_649_999), 995_000);
+        assert_eq!(chance(7_650_000), 996_000);
+        assert_eq!(chance(7_749_999), 996_000);
+        assert_eq!(chance(7_750_000), 997_000);
+        assert_eq!(chance(7_879_999), 997_000);
+        assert_eq!(chance(7_880_000), 998_000);
         assert_eq!(chance(8_089_999), 998_000);
         assert_eq!(chance(8_090_000), 999_000);
         assert_eq!(chance(50_000_000), 999_000);

@@ -1,5 +1,5 @@
-//! Figures and reports by the rules of document 01 and request P1 of document
-//! 02.
+//! Figures and reports by the rules of document 01 and requests P1 and P2 of
+//! document 02.
 
 mod common;
 
@@ -113,6 +113,22 @@ fn chances_of_damage() {
         assert_eq!(chance(class, 0, 100_000, 1, (15_000, 601)), 0);
         assert_eq!(chance(class, 0, 100_000, 1, (15_001, 600)), 0);
         assert_eq!(chance(class, 0, 100_000, 1, (15_001, 601)), 440_000);
+    }
+}
+
+#[test]
+fn both_sides_of_the_entries_of_p2() {
+    // The greatest overpressure below 7.58, 7.65, 7.75 and 7.88, and the least
+    // from there.
+    let chances = [994_000, 995_000, 996_000, 997_000, 998_000];
+    for (class, pressures) in [
+        (1, [309_221, 326_428, 351_185, 387_141]),
+        (2, [179_924, 186_875, 197_274, 212_236]),
+    ] {
+        for (i, pressure) in pressures.into_iter().enumerate() {
+            let both = [pressure, pressure + 1].map(|pa| chance(class, 0, 0, 5, (pa, 0)));
+            assert_eq!(both, chances[i..i + 2], "class {class}, {pressure} Pa");
+        }
     }
 }
 

@@ -1,4 +1,4 @@
-// Prints the figures of document 01, "Figures on both sides", that speak of branches, logarithms and chances, and those of document 02, request P1.
+// Prints the figures of document 01, "Figures on both sides", that speak of branches, logarithms and chances, and those of document 02, requests P1 and P2.
 use libc::STDOUT_FILENO;
 use numeric;
 use terms::Target;
@@ -31,6 +31,14 @@ fn logarithm(n: u32) {
     word(b"logarithm");
     number(n as u64);
     number(log2::l(n) as u64);
+    word(b"\n");
+}
+
+// A probit in millionths; its chance.
+fn probits(y: u64) {
+    word(b"probit");
+    number(y);
+    number(probit::chance(y, 0) as u64);
     word(b"\n");
 }
 
@@ -142,6 +150,26 @@ fn all_spheres() {
     spheres(1, 0, 1);
 }
 
+// Both sides of 7.58, 7.65, 7.75 and 7.88, the entries of 99.5 % to 99.8 %: the probit itself, and an explosion on a pressurised vessel.
+fn all_probits() {
+    probits(7_579_999);
+    probits(7_580_000);
+    probits(7_649_999);
+    probits(7_650_000);
+    probits(7_749_999);
+    probits(7_750_000);
+    probits(7_879_999);
+    probits(7_880_000);
+    blasts(class::PRESSURISED, 179_924);
+    blasts(class::PRESSURISED, 179_925);
+    blasts(class::PRESSURISED, 186_875);
+    blasts(class::PRESSURISED, 186_876);
+    blasts(class::PRESSURISED, 197_274);
+    blasts(class::PRESSURISED, 197_275);
+    blasts(class::PRESSURISED, 212_236);
+    blasts(class::PRESSURISED, 212_237);
+}
+
 fn main() {
     branches(1, 500_000);
     branches(10_000_000_000_000, 999_999);
@@ -151,4 +179,5 @@ fn main() {
     all_fires();
     all_blasts();
     all_spheres();
+    all_probits();
 }

@@ -134,12 +134,13 @@ sent rs = joinOver encode (openingRec 7 ∷ rs)
 abbrev pub refusal : ℕ → ℕ → ℕ → List ℕ
 refusal n p noughts = n ∷ p ∷ replicate noughts 0
 
--- Table D.3: how many Ys 01 prints and what they add up to, which guards each entry; on both sides of the first and the last Y of each step of the chances, and
--- of the one that 99.5 % and 99.6 % share.
+-- Table D.3 with the two entries of 02, request P2: how many Ys it has and what they add up to, which guards each entry; on both sides of the first and the
+-- last Y of each step of the chances, and of 99.5 % to 99.8 %, which guard the two entries one by one.
 unfoldable pub chances : List Edge
 chances =
-    page 108 56353 ∷
-    rises 267 0 10000 ∷ rises 295 10000 20000 ∷ rises 733 980000 990000 ∷ rises 737 990000 991000 ∷ rises 741 991000 992000 ∷ rises 758 994000 996000 ∷ rises 809 998000 999000 ∷
+    page 108 56370 ∷
+    rises 267 0 10000 ∷ rises 295 10000 20000 ∷ rises 733 980000 990000 ∷ rises 737 990000 991000 ∷ rises 741 991000 992000 ∷
+    rises 758 994000 995000 ∷ rises 765 995000 996000 ∷ rises 775 996000 997000 ∷ rises 788 997000 998000 ∷ rises 809 998000 999000 ∷
     []
 
 -- "Death": guards the 20 s that count, 35,000 W/m² in each setting, the fires' kinds, inside and outside the limit in each setting, 10,000 and 30,000 Pa,

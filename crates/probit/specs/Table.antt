@@ -1,4 +1,4 @@
--- To be believed. 01, "From probit to chance": table D.3 of source document 000 as 01 prints it. Assumes nothing.
+-- To be believed. 01, "From probit to chance": table D.3 of source document 000 as 01 prints it, with the two entries of 02, request P2. Assumes nothing.
 use mathlib.Core.List.{List, [], _∷_, _++_}
 use Prim.Native.Nat.{ℕ, _+_, _*_}
 
@@ -21,10 +21,10 @@ wholePercents =
     584 ∷ 588 ∷ 592 ∷ 595 ∷ 599 ∷ 604 ∷ 608 ∷ 613 ∷ 618 ∷ 623 ∷
     628 ∷ 634 ∷ 641 ∷ 648 ∷ 655 ∷ 664 ∷ 675 ∷ 688 ∷ 705 ∷ 733 ∷ []
 
--- 99.1 % to 99.9 %
+-- 99.1 % to 99.9 %; 02, request P2: 99.6 % is 7.65 (758 in 01) and 99.7 % is 7.75 (765 in 01)
 abbrev pub tenthsOfPercent : List ℕ
 tenthsOfPercent =
-    737 ∷ 741 ∷ 746 ∷ 751 ∷ 758 ∷ 758 ∷ 765 ∷ 788 ∷ 809 ∷ []
+    737 ∷ 741 ∷ 746 ∷ 751 ∷ 758 ∷ 765 ∷ 775 ∷ 788 ∷ 809 ∷ []
 
 -- all of them, in the order of the table
 abbrev pub probits : List ℕ

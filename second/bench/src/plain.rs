@@ -1,5 +1,5 @@
-//! A straightforward reader of document 01's studies, with request P1 of
-//! document 02, to time the others by: the rules as they are written, nothing
+//! A straightforward reader of document 01's studies, with requests P1 and P2
+//! of document 02, to time the others by: the rules as they are written, nothing
 //! prepared for speed.
 
 use second_desk::chance::{class, setting};
@@ -28,7 +28,8 @@ static STEPS: [u32; 256] = THRESHOLDS;
 /// The least volume of each K from 1000 to 1342.
 static VOLUMES: [u16; 343] = LEAST;
 
-/// Table D.3 in hundredths: 1 % to 99 % by 1 %, then 99.1 % to 99.9 % by 0.1 %.
+/// Table D.3 in hundredths, with P2's two entries: 1 % to 99 % by 1 %, then
+/// 99.1 % to 99.9 % by 0.1 %.
 #[rustfmt::skip]
 static PROBITS: [i64; 108] = [
     267, 295, 312, 325, 336, 345, 352, 359, 366,
@@ -41,7 +42,7 @@ static PROBITS: [i64; 108] = [
     552, 555, 558, 561, 564, 567, 571, 574, 577, 581,
     584, 588, 592, 595, 599, 604, 608, 613, 618, 623,
     628, 634, 641, 648, 655, 664, 675, 688, 705, 733,
-    737, 741, 746, 751, 758, 758, 765, 788, 809,
+    737, 741, 746, 751, 758, 765, 775, 788, 809,
 ];
 
 /// What may come next.

@@ -1,15 +1,16 @@
 //! Runs lists of calls through this implementation and through the first
 //! one's replay program, and compares the lines.
 
+mod coverage;
 mod damage;
 #[cfg(test)]
 mod exact;
 mod heavy;
 mod lists;
 mod random;
-mod spheres;
 mod studies;
 
+use coverage::Seen;
 use std::io::{ErrorKind, Read, Write};
 use std::path::{Path, PathBuf};
 use std::process::{Command, ExitCode, Stdio};
@@ -76,10 +77,10 @@ struct Tally {
     numbers: [u64; 11],
     /// Lists in which each number was answered.
     lists: [u64; 11],
-    /// Fires on pressurised vessels by what the rule says, in closed studies of
-    /// lists that agreed, and the lists that have them.
-    spheres: [u64; 4],
-    sphere_lists: [u64; 4],
+    /// Effects by what the rules say of them, in closed studies of lists that
+    /// agreed, and the lists that have them.
+    seen: Seen,
+    seen_lists: Seen,
     bad_calls: u64,
     calls: u64,
     first: Option<Difference>,
@@ -149,14 +150,6 @@ fn count_answers(text: &str, tally: &mut Tally) {
     }
 }
 
-/// Counts the fires on pressurised vessels of a list.
-fn count_spheres(counts: [u64; 4], tally: &mut Tally) {
-    for (i, count) in counts.into_iter().enumerate() {
-        tally.spheres[i] += count;
-        tally.sphere_lists[i] += u64::from(count > 0);
-    }
-}
-
 /// Runs one list through both and notes the result.
 fn compare(
     options: &Options,
@@ -167,12 +160,13 @@ fn compare(
 ) -> Result<(), String> {
     let second = second_desk::replay::replay(&calls);
     let first = run(&options.replay, &calls)?;
-    let spheres = spheres::count(&calls);
+    let seen = coverage::count(&calls);
     let mut tally = tally.lock().map_err(|_| "a thread failed")?;
     if first == second {
         tally.agreed += 1;
         count_answers(&second, &mut tally);
-        count_spheres(spheres, &mut tally);
+        tally.seen.add(&seen, |count| count);
+        tally.seen_lists.add(&seen, |count| count.min(1));
         return Ok(());
     }
     tally.differed += 1;
@@ -245,10 +239,21 @@ fn summary(options: &Options, tally: &Tally, seconds: f64) -> bool {
         let lists = tally.lists[number];
         println!("answer {number:2}: {count:9} in {lists:7} lists  {words}");
     }
-    for (i, words) in spheres::WORDS.iter().enumerate() {
-        let (count, lists) = (tally.spheres[i], tally.sphere_lists[i]);
+    let (seen, lists_with) = (&tally.seen, &tally.seen_lists);
+    for (i, words) in coverage::SPHERES.iter().enumerate() {
+        let (count, lists) = (seen.spheres[i], lists_with.spheres[i]);
         println!("class 2 in a fire: {count:9} in {lists:7} lists  {words}");
     }
+    for (words, i) in coverage::CHANGED {
+        let (count, lists) = (seen.entries[i], lists_with.entries[i]);
+        println!("chance of damage:  {count:9} in {lists:7} lists  {words}");
+    }
+    let missing = seen.entries.iter().filter(|&&count| count == 0).count();
+    println!(
+        "entries of the probit table: {} of {} gave a chance",
+        coverage::ENTRIES - missing,
+        coverage::ENTRIES
+    );
     if let Some(difference) = &tally.first {
         show(difference);
     }
@@ -256,11 +261,11 @@ fn summary(options: &Options, tally: &Tally, seconds: f64) -> bool {
     if unanswered {
         println!("a number from 0 to 10 was never answered");
     }
-    let unseen = tally.spheres.contains(&0);
+    let unseen = seen.spheres.contains(&0);
     if unseen {
         println!("class 2 in a fire: one of the four was never seen");
     }
-    !unanswered && !unseen && tally.agreed == lists
+    !unanswered && !unseen && missing == 0 && tally.agreed == lists
 }
 
 fn main() -> ExitCode {
