@@ -27,36 +27,65 @@ pub mod setting {
 /// The natural logarithm of 2, in millionths.
 const LN_2: u64 = 693_147;
 
+/// A duration's unit: what the rules for fires take from it.
+#[derive(Clone, Copy, Debug, PartialEq, Eq)]
+pub struct Clock {
+    /// The longest time a person stays in the heat.
+    pub longest: u16,
+    /// The constant of the probit of death.
+    pub constant: i64,
+    /// Equipment fails by fire for longer than this time.
+    pub limit: u16,
+}
+
+impl Clock {
+    pub const SECONDS: Clock = Clock {
+        longest: 20,
+        constant: -36_380_000,
+        limit: 600,
+    };
+
+    pub const TENTHS: Clock = Clock {
+        longest: 200,
+        constant: -42_274_618,
+        limit: 6_000,
+    };
+
+    /// The clock that an effect's last byte names.
+    #[inline(always)]
+    pub fn named(last: u8) -> Option<&'static Clock> {
+        static CLOCKS: [Clock; 2] = [Clock::SECONDS, Clock::TENTHS];
+        CLOCKS.get(usize::from(last))
+    }
+}
+
 /// Heat from which death is certain.
 const DEADLY_HEAT: u32 = 35_000;
-/// The longest time a person stays in the heat.
-const LONGEST_EXPOSURE: u16 = 20;
 /// Overpressure from which death is certain.
 const DEADLY_BLAST: u32 = 30_000;
 /// Overpressure from which people indoors are at risk, and their chance.
 const INDOOR_BLAST: u32 = 10_000;
 const INDOOR_BLAST_CHANCE: u32 = 25_000;
-/// Equipment fails by fire for longer than this time.
-const DAMAGING_TIME: u16 = 600;
 
-/// Probit of death by fire: heat of at least 1 W/m², duration of at least 1 s.
+/// Probit of death by fire: heat of at least 1 W/m², duration of at least 1 by
+/// its clock.
 #[inline]
-pub fn fire_death_probit(heat: u32, duration: u16) -> i64 {
-    let exposure = u32::from(duration.min(LONGEST_EXPOSURE));
+pub fn fire_death_probit(clock: &Clock, heat: u32, duration: u16) -> i64 {
+    let exposure = u32::from(duration.min(clock.longest));
     let steps = u64::from(4 * log(heat) + 3 * log(exposure));
-    (steps * LN_2 / 300) as i64 - 36_380_000
+    (steps * LN_2 / 300) as i64 + clock.constant
 }
 
 /// Chance of death by pool fire, jet fire or fireball.
 #[inline]
-pub fn fire_death(setting: u8, heat: u32, duration: u16) -> u32 {
+pub fn fire_death(clock: &Clock, setting: u8, heat: u32, duration: u16) -> u32 {
     if heat >= DEADLY_HEAT {
         return CERTAIN;
     }
     if setting == setting::INDOORS || heat == 0 {
         return 0;
     }
-    let chance = probit::chance(fire_death_probit(heat, duration));
+    let chance = probit::chance(fire_death_probit(clock, heat, duration));
     if setting == setting::OUTDOORS {
         chance * 14 / 100
     } else {
@@ -185,8 +214,8 @@ pub fn fire_damage_probit(class: u8, heat: u32, volume_term: i32) -> i64 {
 
 /// Chance of damage by fire for classes 1, 2 and 5.
 #[inline]
-pub fn fire_damage(class: u8, volume_term: i32, heat: u32, duration: u16) -> u32 {
-    if heat > fire_row(class).threshold && duration > DAMAGING_TIME {
+pub fn fire_damage(clock: &Clock, class: u8, volume_term: i32, heat: u32, duration: u16) -> u32 {
+    if heat > fire_row(class).threshold && duration > clock.limit {
         probit::chance(fire_damage_probit(class, heat, volume_term))
     } else {
         0
@@ -197,21 +226,64 @@ pub fn fire_damage(class: u8, volume_term: i32, heat: u32, duration: u16) -> u32
 mod tests {
     use super::*;
 
+    const SECONDS: Clock = Clock::SECONDS;
+    const TENTHS: Clock = Clock::TENTHS;
+
     #[test]
     fn fire_and_people() {
-        assert_eq!(fire_death_probit(12_500, 20), 3_485_194);
-        assert_eq!(fire_death(setting::INDIVIDUAL, 12_500, 20), 60_000);
-        assert_eq!(fire_death(setting::INDIVIDUAL, 12_500, 65_535), 60_000);
-        assert_eq!(fire_death(setting::OUTDOORS, 12_500, 20), 8_400);
-        assert_eq!(fire_death(setting::INDOORS, 12_500, 20), 0);
-        assert_eq!(fire_death_probit(34_999, 20), 6_997_139);
-        assert_eq!(fire_death(setting::INDIVIDUAL, 34_999, 20), 970_000);
-        assert_eq!(fire_death(setting::INDOORS, 34_999, 20), 0);
+        assert_eq!(fire_death_probit(&SECONDS, 12_500, 20), 3_485_194);
+        assert_eq!(
+            fire_death(&SECONDS, setting::INDIVIDUAL, 12_500, 20),
+            60_000
+        );
+        assert_eq!(
+            fire_death(&SECONDS, setting::INDIVIDUAL, 12_500, 65_535),
+            60_000
+        );
+        assert_eq!(fire_death(&SECONDS, setting::OUTDOORS, 12_500, 20), 8_400);
+        assert_eq!(fire_death(&SECONDS, setting::INDOORS, 12_500, 20), 0);
+        assert_eq!(fire_death_probit(&SECONDS, 34_999, 20), 6_997_139);
+        assert_eq!(
+            fire_death(&SECONDS, setting::INDIVIDUAL, 34_999, 20),
+            970_000
+        );
+        assert_eq!(fire_death(&SECONDS, setting::INDOORS, 34_999, 20), 0);
         for setting in 0..3 {
-            assert_eq!(fire_death(setting, 35_000, 1), CERTAIN);
-            assert_eq!(fire_death(setting, u32::MAX, 1), CERTAIN);
-            assert_eq!(fire_death(setting, 0, 20), 0);
-            assert_eq!(fire_death(setting, 1, 1), 0);
+            assert_eq!(fire_death(&SECONDS, setting, 35_000, 1), CERTAIN);
+            assert_eq!(fire_death(&SECONDS, setting, u32::MAX, 1), CERTAIN);
+            assert_eq!(fire_death(&SECONDS, setting, 0, 20), 0);
+            assert_eq!(fire_death(&SECONDS, setting, 1, 1), 0);
+        }
+    }
+
+    #[test]
+    fn fire_in_tenths_and_people() {
+        let individual = |heat, tenths| fire_death(&TENTHS, setting::INDIVIDUAL, heat, tenths);
+        // L is 1,956 at 200, 1,106 at 20.
+        assert_eq!(fire_death_probit(&TENTHS, 12_500, 200), 3_482_325);
+        assert_eq!(fire_death_probit(&TENTHS, 12_500, 20), -2_409_424);
+        assert_eq!(individual(12_500, 200), 60_000);
+        assert_eq!(individual(12_500, u16::MAX), 60_000);
+        assert_eq!(individual(12_500, 20), 0);
+        assert_eq!(fire_death(&TENTHS, setting::OUTDOORS, 12_500, 200), 8_400);
+        assert_eq!(fire_death(&TENTHS, setting::INDOORS, 12_500, 200), 0);
+        assert_eq!(fire_death_probit(&TENTHS, 34_999, 200), 6_994_270);
+        assert_eq!(individual(34_999, 200), 970_000);
+        assert_eq!(individual(34_999, 1), 0);
+        assert_eq!(individual(35_000, 1), CERTAIN);
+        assert_eq!(individual(0, 200), 0);
+        // At 16,789 W/m² Y is 4,475,836, 4,489,699 and, if 201 were counted,
+        // 4,503,562.
+        let around = [199, 200, 201].map(|tenths| individual(16_789, tenths));
+        assert_eq!(around, [290_000, 300_000, 300_000]);
+    }
+
+    #[test]
+    fn clocks_by_last_byte() {
+        assert_eq!(Clock::named(0), Some(&SECONDS));
+        assert_eq!(Clock::named(1), Some(&TENTHS));
+        for last in 2..=255 {
+            assert_eq!(Clock::named(last), None);
         }
     }
 
@@ -256,13 +328,19 @@ mod tests {
         for class in [1, 5] {
             let term = |volume| volume_term(class, volume).unwrap();
             assert_eq!([term(0), term(1), term(100_000)], [0, 49, 4_925_949]);
-            assert_eq!(fire_damage(class, term(100_000), 15_000, u16::MAX), 0);
-            assert_eq!(fire_damage(class, 0, u32::MAX, 600), 0);
-            assert_eq!(fire_damage(class, 0, u32::MAX, 601), 999_000);
+            assert_eq!(
+                fire_damage(&SECONDS, class, term(100_000), 15_000, u16::MAX),
+                0
+            );
+            assert_eq!(fire_damage(&SECONDS, class, 0, u32::MAX, 600), 0);
+            assert_eq!(fire_damage(&SECONDS, class, 0, u32::MAX, 601), 999_000);
             // 15,001 W/m²: L is 3,551.
             assert_eq!(log(15_001), 3_551);
             assert_eq!(fire_damage_probit(class, 15_001, 0), -63_113);
-            assert_eq!(fire_damage(class, term(100_000), 15_001, 601), 440_000);
+            assert_eq!(
+                fire_damage(&SECONDS, class, term(100_000), 15_001, 601),
+                440_000
+            );
         }
     }
 
@@ -276,18 +354,37 @@ mod tests {
         // seen only without what a volume takes off.
         assert_eq!(log(40_001), 3_913);
         assert_eq!(fire_damage_probit(2, 40_001, term(1)), 2_652_433);
-        assert_eq!(fire_damage(2, term(1), 40_001, u16::MAX), 0);
-        assert_eq!(fire_damage(2, 0, 40_000, u16::MAX), 0);
-        assert_eq!(fire_damage(2, 0, u32::MAX, 600), 0);
-        assert_eq!(fire_damage(2, 0, 40_001, 601), 999_000);
+        assert_eq!(fire_damage(&SECONDS, 2, term(1), 40_001, u16::MAX), 0);
+        assert_eq!(fire_damage(&SECONDS, 2, 0, 40_000, u16::MAX), 0);
+        assert_eq!(fire_damage(&SECONDS, 2, 0, u32::MAX, 600), 0);
+        assert_eq!(fire_damage(&SECONDS, 2, 0, 40_001, 601), 999_000);
         assert_eq!(fire_damage_probit(2, 60_000, term(1)), 3_362_817);
-        assert_eq!(fire_damage(2, term(1), 60_000, 601), 50_000);
+        assert_eq!(fire_damage(&SECONDS, 2, term(1), 60_000, 601), 50_000);
         assert_eq!(fire_damage_probit(2, u32::MAX, term(10_000)), 17_325_445);
-        assert_eq!(fire_damage(2, term(10_000), u32::MAX, 601), 999_000);
+        assert_eq!(
+            fire_damage(&SECONDS, 2, term(10_000), u32::MAX, 601),
+            999_000
+        );
         // Each bracket is rounded down by itself: 331 m³ has K 1204, 1,768,269
         // W/m² has L 5,313, and rounding the difference once gives 5,949,999.
         assert_eq!(fire_damage_probit(2, 1_768_269, term(331)), 5_950_000);
-        assert_eq!(fire_damage(2, term(331), 1_768_269, 601), 830_000);
+        assert_eq!(fire_damage(&SECONDS, 2, term(331), 1_768_269, 601), 830_000);
+    }
+
+    #[test]
+    fn fire_in_tenths_and_equipment() {
+        for (class, volume, heat, chance) in [
+            (1, 100_000, 15_001, 440_000),
+            (5, 100_000, 15_001, 440_000),
+            (2, 1, 60_000, 50_000),
+        ] {
+            let term = volume_term(class, volume).unwrap();
+            let damage = |tenths| fire_damage(&TENTHS, class, term, heat, tenths);
+            assert_eq!([601, 5_999, 6_000].map(damage), [0; 3]);
+            assert_eq!([6_001, u16::MAX].map(damage), [chance; 2]);
+        }
+        assert_eq!(fire_damage(&TENTHS, 1, 0, 15_000, 6_001), 0);
+        assert_eq!(fire_damage(&TENTHS, 2, 0, 40_000, 6_001), 0);
     }
 
     #[test]

@@ -2,8 +2,8 @@
 //! the study is closed reports totals, sums, grades and the domino list.
 //!
 //! This is a second implementation, written from the rules of document 01 and
-//! requests P1 and P2 of document 02 alone, to be compared with the first one
-//! call by call.
+//! requests P1, P2 and P6 of document 02 alone, to be compared with the first
+//! one call by call.
 
 #![forbid(unsafe_code)]
 

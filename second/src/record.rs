@@ -7,17 +7,21 @@ pub const BRANCHING: u8 = 4;
 pub const OUTCOME: u8 = 5;
 pub const EFFECT: u8 = 6;
 pub const CLOSING: u8 = 7;
+/// An effect with a last byte that names the clock of its duration.
+pub const TIMED_EFFECT: u8 = 8;
 
 /// Lengths by kind, the kind byte included; 0 where the kind is unknown.
-const LENGTHS: [u8; 8] = [0, 5, 9, 13, 5, 4, 9, 13];
+const LENGTHS: [u8; 9] = [0, 5, 9, 13, 5, 4, 9, 13, 10];
 
 /// The length of a record of this kind, its kind byte included; none for an
 /// unknown kind.
 #[inline]
 pub const fn length(kind: u8) -> Option<usize> {
-    match LENGTHS[(kind & 7) as usize] {
+    if kind as usize >= LENGTHS.len() {
+        return None;
+    }
+    match LENGTHS[kind as usize] {
         0 => None,
-        _ if kind > CLOSING => None,
         length => Some(length as usize),
     }
 }
@@ -72,7 +76,16 @@ mod tests {
     #[test]
     fn lengths_of_all_bytes() {
         let known = (0..=255).filter_map(|kind| length(kind).map(|n| (kind, n)));
-        let expected = [(1, 5), (2, 9), (3, 13), (4, 5), (5, 4), (6, 9), (7, 13)];
+        let expected = [
+            (1, 5),
+            (2, 9),
+            (3, 13),
+            (4, 5),
+            (5, 4),
+            (6, 9),
+            (7, 13),
+            (8, 10),
+        ];
         assert_eq!(known.collect::<Vec<_>>(), expected);
     }
 }

@@ -3,7 +3,7 @@
 //! A record that lies whole in a piece is read straight from it. Only a record
 //! cut by the end of a piece is held, in one number, until it is complete.
 
-use crate::chance;
+use crate::chance::{self, Clock};
 use crate::record::{self, number, outcome};
 use crate::report::{Report, Standing, TargetFigures, Totals};
 
@@ -37,11 +37,11 @@ impl Stage {
     /// Whether the order allows a record of this kind here.
     #[inline(always)]
     const fn allows(self, kind: u8) -> bool {
-        let kinds: u8 = match self {
+        let kinds: u16 = match self {
             Stage::Opening => 1 << record::OPENING,
             Stage::Targets => 1 << record::TARGET | 1 << record::LEAK | 1 << record::CLOSING,
             Stage::Tree => 1 << record::BRANCHING | 1 << record::OUTCOME,
-            Stage::Effects => 1 << record::EFFECT,
+            Stage::Effects => 1 << record::EFFECT | 1 << record::TIMED_EFFECT,
             Stage::Scenarios => 1 << record::LEAK | 1 << record::CLOSING,
             Stage::Closed | Stage::Refused => 0,
         };
@@ -284,6 +284,7 @@ impl Study {
             record::BRANCHING => self.take(rest, Study::branching),
             record::OUTCOME => self.take(rest, Study::outcome),
             record::EFFECT => self.take(rest, Study::refused_effect),
+            record::TIMED_EFFECT => self.take(rest, Study::refused_timed_effect),
             record::CLOSING => self.take(rest, Study::closing),
             _ => self.refuse(number::UNKNOWN_KIND),
         }
@@ -461,13 +462,12 @@ impl Study {
         let targets = &mut self.targets[..usize::from(self.target_count)];
         let mut next_target = self.next_target;
         let mut done = 0;
+        let length = rest.len();
         while done < limit {
-            let Some((effect, after)) = rest.split_first_chunk::<9>() else {
+            let Some((effect, clock, after)) = first_effect(rest) else {
                 break;
             };
-            let &[record::EFFECT, t1, t0, i3, i2, i1, i0, d1, d0] = effect else {
-                break;
-            };
+            let [t1, t0, i3, i2, i1, i0, d1, d0] = *effect;
             let number = u16::from_be_bytes([t1, t0]);
             let intensity = u32::from_be_bytes([i3, i2, i1, i0]);
             let duration = u16::from_be_bytes([d1, d0]);
@@ -477,7 +477,7 @@ impl Study {
             let Some(target) = targets.get_mut(usize::from(number)) else {
                 break;
             };
-            let chance = effect_chance(FORM, target, intensity, duration);
+            let chance = effect_chance(FORM, target, clock, intensity, duration);
             if FORM == form::FIRE && target.unjudged_in_fire {
                 self.unjudged += 1;
             }
@@ -490,7 +490,7 @@ impl Study {
         }
         self.next_target = next_target;
         self.records += done;
-        self.taken += 9 * u64::from(done);
+        self.taken += (length - rest.len()) as u64;
         self.effects_left -= done as u16;
         if self.effects_left == 0 {
             self.end_outcome();
@@ -516,6 +516,16 @@ impl Study {
         }
     }
 
+    /// The same for an effect whose last byte names its clock.
+    #[cold]
+    fn refused_timed_effect(&mut self, body: &[u8; 9]) -> Result<(), u8> {
+        let [fields @ .., last] = body;
+        match Clock::named(*last) {
+            Some(_) => self.refused_effect(fields),
+            None => Err(number::FIELD),
+        }
+    }
+
     fn closing(&mut self, body: &[u8; 12]) -> Result<(), u8> {
         let [c3, c2, c1, c0, sum @ ..] = *body;
         let count = u32::from_be_bytes([c3, c2, c1, c0]);
@@ -528,7 +538,7 @@ impl Study {
 
     /// Whether the order allows a record of this kind next.
     pub fn allows(&self, kind: u8) -> bool {
-        (record::OPENING..=record::CLOSING).contains(&kind) && self.stage.allows(kind)
+        record::length(kind).is_some() && self.stage.allows(kind)
     }
 
     /// The number a report is refused with before it is looked at closer.
@@ -638,6 +648,24 @@ fn share(frequency: u64, chance: u32) -> u64 {
     frequency * u64::from(chance) / 1_000_000
 }
 
+/// The effect at the front of some bytes: its fields but the last byte, its
+/// clock, and the bytes after it. None where no whole effect stands there, or
+/// its last byte names no clock.
+#[inline(always)]
+fn first_effect(bytes: &[u8]) -> Option<(&[u8; 8], &'static Clock, &[u8])> {
+    let (&kind, rest) = bytes.split_first()?;
+    let (body, rest) = rest.split_first_chunk()?;
+    let (last, after) = match kind {
+        record::EFFECT => (0, rest),
+        record::TIMED_EFFECT => {
+            let (&last, after) = rest.split_first()?;
+            (last, after)
+        }
+        _ => return None,
+    };
+    Some((body, Clock::named(last)?, after))
+}
+
 #[inline(always)]
 fn effect_in_bounds(form: u8, intensity: u32, duration: u16) -> bool {
     match form {
@@ -648,12 +676,16 @@ fn effect_in_bounds(form: u8, intensity: u32, duration: u16) -> bool {
 }
 
 #[inline(always)]
-fn effect_chance(form: u8, target: &Target, intensity: u32, duration: u16) -> u32 {
+fn effect_chance(form: u8, target: &Target, clock: &Clock, intensity: u32, duration: u16) -> u32 {
     use chance::class;
     match (form, target.class) {
-        (form::FIRE, class::PEOPLE) => chance::fire_death(target.setting, intensity, duration),
+        (form::FIRE, class::PEOPLE) => {
+            chance::fire_death(clock, target.setting, intensity, duration)
+        }
         (form::FIRE, _) if target.unjudged_in_fire => 0,
-        (form::FIRE, class) => chance::fire_damage(class, target.volume_term, intensity, duration),
+        (form::FIRE, class) => {
+            chance::fire_damage(clock, class, target.volume_term, intensity, duration)
+        }
         (form::FLASH, class::PEOPLE) => chance::flash_death(intensity),
         (form::BLAST, class::PEOPLE) => chance::blast_death(target.setting, intensity),
         (form::BLAST, class) => chance::blast_damage(class, intensity),

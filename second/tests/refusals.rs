@@ -93,7 +93,7 @@ fn unknown_kinds_at_the_kind_byte() {
         nested(0).outcome(0, 0),
     ];
     for before in &stages {
-        for kind in [0, 8, 9, 15, 128, 255] {
+        for kind in [0, 9, 11, 15, 128, 136, 255] {
             refused(before, &before.clone().record(kind, &[]), 1);
         }
     }
@@ -111,6 +111,7 @@ fn order() {
             before.clone().outcome(0, 0),
             before.clone().effect(0, 1, 1),
             before.clone().close(),
+            before.clone().timed(0, 1, 1, 1),
         ]
     };
     let stages: [(Builder, &[usize]); 6] = [
@@ -118,7 +119,7 @@ fn order() {
         (two_targets(), &[2, 3, 7]),
         (nested(0), &[4, 5]),
         (nested(3), &[4, 5]),
-        (nested(0).outcome(1, 1), &[6]),
+        (nested(0).outcome(1, 1), &[6, 8]),
         (nested(0).outcome(0, 0), &[3, 7]),
     ];
     for (before, allowed) in &stages {
@@ -139,6 +140,7 @@ fn order() {
     refused(&short, &short.clone().close(), 2);
     let long = nested(0).outcome(1, 1).effect(0, 1, 1);
     refused(&long, &long.clone().effect(1, 1, 1), 2);
+    refused(&long, &long.clone().timed(1, 1, 1, 1), 2);
 }
 
 #[test]
@@ -204,6 +206,45 @@ fn fields_of_effects() {
     taken(&before.clone().effect(0, u32::MAX, 0));
     refused(&before, &before.clone().effect(0, 5, 1), 3);
     refused(&before, &before.clone().effect(0, 5, 256), 3);
+}
+
+#[test]
+fn fields_of_timed_effects() {
+    for (kind, intensity, duration) in [(1, 9, 1), (2, 9, 1), (3, 9, 65_535), (4, 1, 0), (5, 9, 0)]
+    {
+        let before = nested(0).outcome(kind, 2);
+        let effect = |last| before.clone().timed(0, intensity, duration, last);
+        taken(&effect(0));
+        taken(&effect(1));
+        for last in [2, 3, 128, 255] {
+            refused(&before, &effect(last), 3);
+        }
+    }
+    // The other fields have the bounds of kind 6, whatever the clock.
+    for (kind, intensity, duration) in [(1, 5, 0), (3, 5, 0), (4, 2, 0), (4, 1, 1), (5, 5, 1)] {
+        let before = nested(0).outcome(kind, 2);
+        for last in [0, 1, 2] {
+            let faulty = before.clone().timed(0, intensity, duration, last);
+            refused(&before, &faulty, 3);
+        }
+    }
+}
+
+#[test]
+fn numbers_of_timed_effects() {
+    for (first, second) in [(0, 1), (1, 0), (1, 1)] {
+        let before = nested(0).outcome(5, 3);
+        refused(&before, &before.clone().timed(2, 5, 0, first), 4);
+        refused(&before, &before.clone().timed(u16::MAX, 5, 0, first), 4);
+        // After one of kind 6, and one of kind 6 after it.
+        let timed = before.clone().timed(1, 5, 0, first);
+        let untimed = before.effect(1, 5, 0);
+        for target in [0, 1] {
+            refused(&untimed, &untimed.clone().timed(target, 5, 0, second), 4);
+            refused(&timed, &timed.clone().timed(target, 5, 0, second), 4);
+            refused(&timed, &timed.clone().effect(target, 5, 0), 4);
+        }
+    }
 }
 
 #[test]
@@ -294,7 +335,7 @@ fn several_faults_in_one_record() {
     // 1 before all: an unknown kind where the order allows none and after the
     // last record.
     let full = records(1_000_000);
-    refused(&full, &full.clone().record(8, &[]), 1);
+    refused(&full, &full.clone().record(11, &[]), 1);
     // 2 before 5, 3, 4 and 6.
     refused(&full, &full.clone().target(7, 9, 9, u32::MAX), 2);
     refused(&full, &full.clone().record(1, &[&[0; 4]]), 2);
@@ -302,6 +343,7 @@ fn several_faults_in_one_record() {
     refused(&before, &before.clone().leak(0, 0), 2);
     refused(&before, &before.clone().closing(0, 0), 2);
     refused(&nested(0), &nested(0).effect(9, 1, 0), 2);
+    refused(&nested(0), &nested(0).timed(9, 1, 0, 2), 2);
     // 5 before 3, 4 and 6.
     refused(&full, &full.clone().leak(0, 0), 5);
     refused(&full, &full.clone().closing(0, 0), 5);
@@ -321,7 +363,14 @@ fn several_faults_in_one_record() {
         let before = nested(0).outcome(kind, 1);
         let faulty = before.clone().effect(2, intensity, duration);
         refused(&before, &faulty, 3);
+        let faulty = before.clone().timed(2, intensity, duration, 1);
+        refused(&before, &faulty, 3);
     }
+    // The last byte too, for a target that is not declared or does not rise.
+    let before = nested(0).outcome(1, 2);
+    refused(&before, &before.clone().timed(2, 5, 1, 2), 3);
+    let before = before.timed(1, 5, 1, 1);
+    refused(&before, &before.clone().timed(1, 5, 1, 255), 3);
 }
 
 fn targets(count: u16) -> Builder {
@@ -424,4 +473,6 @@ fn records_at_the_bound() {
     assert_eq!(before.records, 1_000_000);
     refused(&before, &before.clone().effect(8, 5, 0), 5);
     refused(&before, &before.clone().effect(0, 5, 1), 5);
+    refused(&before, &before.clone().timed(8, 5, 0, 1), 5);
+    refused(&before, &before.clone().timed(0, 5, 1, 2), 5);
 }

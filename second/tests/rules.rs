@@ -1,4 +1,4 @@
-//! Figures and reports by the rules of document 01 and requests P1 and P2 of
+//! Figures and reports by the rules of document 01 and requests P1, P2 and P6 of
 //! document 02.
 
 mod common;
@@ -198,6 +198,90 @@ fn pressurised_vessels_left_unjudged() {
         let mut lent = [65_535; 6];
         assert_eq!(study.domino(&mut lent).figures, Some(listed.len() as u16));
         assert_eq!(lent[..listed.len()], listed);
+    }
+}
+
+/// The chance of one fire of kind 8 on one target of class 0, 1 or 2, with a
+/// volume that has a chance.
+fn timed_chance(class: u8, heat: u32, duration: u16, last: u8) -> u64 {
+    let volume = [0, 100_000, 1][usize::from(class)];
+    let builder = Builder::new(1)
+        .target(0, class, 0, volume)
+        .leak(1, 1_000_000)
+        .outcome(3, 1)
+        .timed(0, heat, duration, last)
+        .close();
+    sum(&closed(&builder), 0)
+}
+
+#[test]
+fn fires_timed_in_seconds_and_tenths() {
+    let people = |last, times: [u16; 5]| times.map(|time| timed_chance(0, 16_789, time, last));
+    // Y at 16,789 W/m² in tenths: 4,475,836 at 199, 4,489,699 at 200.
+    let tenths = [0, 0, 290_000, 300_000, 300_000];
+    assert_eq!(people(1, [1, 20, 199, 200, 201]), tenths);
+    // In seconds: 4,360,870 at 19, 4,492,568 at 20.
+    let seconds = [0, 260_000, 300_000, 300_000, 300_000];
+    assert_eq!(people(0, [1, 19, 20, 21, 200]), seconds);
+    assert_eq!(timed_chance(0, 12_500, 200, 1), 60_000);
+    assert_eq!(timed_chance(0, 35_000, 1, 1), 1_000_000);
+    for (class, heat, chance) in [(1, 15_001, 440_000), (2, 60_000, 50_000)] {
+        let damage = |last, times: [u16; 4]| times.map(|t| timed_chance(class, heat, t, last));
+        assert_eq!(damage(0, [599, 600, 601, 6_000]), [0, 0, chance, chance]);
+        assert_eq!(damage(1, [601, 5_999, 6_000, 6_001]), [0, 0, 0, chance]);
+    }
+}
+
+#[test]
+fn kinds_of_effect_in_one_outcome() {
+    // A pool fire of 20 s, 20 s, 20 tenths and 200 tenths on four places of
+    // people, one of 601 s and of 601 and 6,001 tenths on three vessels of
+    // 100,000 m³, and one of a tenth on a tower.
+    let mut builder = Builder::new(1);
+    for number in 0..8 {
+        let class = [0, 0, 0, 0, 1, 1, 1, 3][usize::from(number)];
+        builder = builder.target(number, class, 0, 100_000);
+    }
+    let builder = builder
+        .leak(1, 1_000_000)
+        .outcome(1, 8)
+        .effect(0, 16_789, 20)
+        .timed(1, 16_789, 20, 0)
+        .timed(2, 16_789, 20, 1)
+        .timed(3, 16_789, 200, 1)
+        .effect(4, 15_001, 601)
+        .timed(5, 15_001, 601, 1)
+        .timed(6, 15_001, 6_001, 1)
+        .timed(7, 15_001, 1, 1)
+        .close();
+    let study = closed(&builder);
+    let sums = [0, 1, 2, 3, 4, 5, 6, 7].map(|target| sum(&study, target));
+    let people = [300_000, 300_000, 0, 300_000];
+    assert_eq!(sums[..4], people);
+    assert_eq!(sums[4..], [440_000, 0, 440_000, 0]);
+    assert_eq!(study.totals().figures.unwrap().unjudged, 1);
+    assert_eq!(study.target(6).figures.unwrap().margin, 1);
+}
+
+#[test]
+fn either_clock_where_there_is_no_duration() {
+    for last in [0, 1] {
+        let builder = Builder::new(1)
+            .target(0, 0, 2, 0)
+            .target(1, 1, 0, 0)
+            .leak(1, 20_000_000)
+            .branching(500_000)
+            .outcome(4, 1)
+            .timed(0, 1, 0, last)
+            .outcome(5, 2)
+            .timed(0, 10_000, 0, last)
+            .timed(1, 70_000, 0, last)
+            .close();
+        let study = closed(&builder);
+        assert_eq!(sum(&study, 0), 10_000_000 + 250_000);
+        assert_eq!(sum(&study, 1), 7_200_000);
+        let standing = study.target(1).figures.unwrap().standing;
+        assert_eq!(standing, Standing::Listed);
     }
 }
 

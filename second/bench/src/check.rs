@@ -13,6 +13,9 @@ use crate::studies::Input;
 /// The closing record's length.
 const CLOSING: usize = 13;
 
+/// A byte that starts no record.
+const UNKNOWN_KIND: u8 = 11;
+
 /// A study's bytes, and what is to be answered by document 01.
 struct Case {
     name: &'static str,
@@ -48,9 +51,9 @@ fn cases(input: &Input) -> [Case; 6] {
     let case = |name, last, reports, place| Case::new(input, name, last, reports, place);
     let whole = case("whole", 0, 0, length);
     let mut first_leak = case("kind of the first leak", 1, 1, leak);
-    first_leak.bytes[leak] = 9;
+    first_leak.bytes[leak] = UNKNOWN_KIND;
     let mut last_kind = case("kind of the closing record", 1, 1, closing);
-    last_kind.bytes[closing] = 9;
+    last_kind.bytes[closing] = UNKNOWN_KIND;
     let mut other_sum = case("sum of the closing record", 6, 6, closing);
     other_sum.bytes[length - 1] ^= 1;
     let mut cut = case("last byte missing", 0, 8, length - 1);

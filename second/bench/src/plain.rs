@@ -1,6 +1,6 @@
-//! A straightforward reader of document 01's studies, with requests P1 and P2
-//! of document 02, to time the others by: the rules as they are written, nothing
-//! prepared for speed.
+//! A straightforward reader of document 01's studies, with requests P1, P2 and
+//! P6 of document 02, to time the others by: the rules as they are written,
+//! nothing prepared for speed.
 
 use second_desk::chance::{class, setting};
 use second_desk::logarithm::THRESHOLDS;
@@ -21,6 +21,28 @@ const LONGEST_RECORD: usize = 13;
 const CERTAIN: u32 = 1_000_000;
 /// The natural logarithm of 2, in millionths.
 const LN_2: i64 = 693_147;
+
+/// What the rules for fires take from a duration's unit.
+struct Clock {
+    /// The longest time a person stays in the heat.
+    longest: u16,
+    /// The constant of the probit of death.
+    constant: i64,
+    /// Equipment fails by fire for longer than this time.
+    limit: u16,
+}
+
+static SECONDS: Clock = Clock {
+    longest: 20,
+    constant: -36_380_000,
+    limit: 600,
+};
+
+static TENTHS: Clock = Clock {
+    longest: 200,
+    constant: -42_274_618,
+    limit: 6_000,
+};
 
 /// Steps of one octave of the logarithm.
 static STEPS: [u32; 256] = THRESHOLDS;
@@ -203,7 +225,7 @@ impl Reader {
             record::LEAK => self.leak(body)?,
             record::BRANCHING => self.branching(body)?,
             record::OUTCOME => self.outcome(body)?,
-            record::EFFECT => self.effect(body)?,
+            record::EFFECT | record::TIMED_EFFECT => self.effect(body)?,
             _ => self.closing(body)?,
         }
         self.records += 1;
@@ -219,7 +241,7 @@ impl Reader {
             }
             Expected::Scenario => matches!(kind, record::LEAK | record::CLOSING),
             Expected::Tree => matches!(kind, record::BRANCHING | record::OUTCOME),
-            Expected::Effect => kind == record::EFFECT,
+            Expected::Effect => matches!(kind, record::EFFECT | record::TIMED_EFFECT),
             Expected::Nothing => false,
         }
     }
@@ -327,6 +349,7 @@ impl Reader {
     }
 
     fn effect(&mut self, body: &[u8]) -> Result<(), u8> {
+        let clock = clock(body)?;
         let number = u16::from_be_bytes(field(body, 0));
         let intensity = u32::from_be_bytes(field(body, 2));
         let duration = u16::from_be_bytes(field(body, 6));
@@ -347,9 +370,9 @@ impl Reader {
             .get_mut(usize::from(number))
             .ok_or(number::NUMBERING)?;
         let chance = if target.class == class::PEOPLE {
-            death(target.setting, outcome.kind, intensity, duration)
+            death(target.setting, outcome.kind, intensity, duration, clock)
         } else {
-            damage(target, outcome.kind, intensity, duration)
+            damage(target, outcome.kind, intensity, duration, clock)
         };
         target.sum += share(outcome.tree.frequency, chance);
         target.margin += outcome.tree.above + 1;
@@ -439,6 +462,7 @@ fn record_length(kind: u8) -> Result<usize, u8> {
     match kind {
         record::OPENING | record::BRANCHING => Ok(5),
         record::TARGET | record::EFFECT => Ok(9),
+        record::TIMED_EFFECT => Ok(10),
         record::LEAK | record::CLOSING => Ok(13),
         record::OUTCOME => Ok(4),
         _ => Err(number::UNKNOWN_KIND),
@@ -448,6 +472,15 @@ fn record_length(kind: u8) -> Result<usize, u8> {
 /// The bytes of a field that starts at this place of the body.
 fn field<const N: usize>(body: &[u8], at: usize) -> [u8; N] {
     body[at..at + N].try_into().unwrap()
+}
+
+/// The clock that an effect's last byte names; kind 6 has none.
+fn clock(effect: &[u8]) -> Result<&'static Clock, u8> {
+    match effect.get(8) {
+        None | Some(0) => Ok(&SECONDS),
+        Some(1) => Ok(&TENTHS),
+        Some(_) => Err(number::FIELD),
+    }
 }
 
 /// Frequency × chance, rounded down.
@@ -493,7 +526,7 @@ fn chance(probit: i64) -> u32 {
 }
 
 /// Chance of death in a place of people.
-fn death(setting: u8, kind: u8, intensity: u32, duration: u16) -> u32 {
+fn death(setting: u8, kind: u8, intensity: u32, duration: u16, clock: &Clock) -> u32 {
     match kind {
         outcome::FLASH_FIRE => intensity * CERTAIN,
         outcome::EXPLOSION => {
@@ -512,9 +545,9 @@ fn death(setting: u8, kind: u8, intensity: u32, duration: u16) -> u32 {
             if setting == setting::INDOORS || intensity == 0 {
                 return 0;
             }
-            let exposure = u32::from(duration.min(20));
+            let exposure = u32::from(duration.min(clock.longest));
             let steps = 4 * log(intensity) + 3 * log(exposure);
-            let chance = chance(-36_380_000 + steps * LN_2 / 300);
+            let chance = chance(clock.constant + steps * LN_2 / 300);
             if setting == setting::OUTDOORS {
                 chance * 14 / 100
             } else {
@@ -525,11 +558,11 @@ fn death(setting: u8, kind: u8, intensity: u32, duration: u16) -> u32 {
 }
 
 /// Chance of damage to equipment.
-fn damage(target: &Target, kind: u8, intensity: u32, duration: u16) -> u32 {
+fn damage(target: &Target, kind: u8, intensity: u32, duration: u16, clock: &Clock) -> u32 {
     match kind {
         outcome::FLASH_FIRE => 0,
         outcome::EXPLOSION => blast_damage(target, intensity),
-        _ => fire_damage(target, intensity, duration),
+        _ => fire_damage(target, intensity, duration, clock),
     }
 }
 
@@ -546,8 +579,8 @@ fn blast_damage(target: &Target, overpressure: u32) -> u32 {
     chance(a + b * log(overpressure) * LN_2 / 25_600)
 }
 
-fn fire_damage(target: &Target, heat: u32, duration: u16) -> u32 {
-    if unjudged_in_fire(target) || duration <= 600 {
+fn fire_damage(target: &Target, heat: u32, duration: u16, clock: &Clock) -> u32 {
+    if unjudged_in_fire(target) || duration <= clock.limit {
         return 0;
     }
     if target.class == class::PRESSURISED_VESSEL {
@@ -599,6 +632,25 @@ mod tests {
         std::fs::read(folder.to_owned() + name).unwrap()
     }
 
+    /// A study with its effects as kind 8, in seconds and tenths in turn.
+    fn timed(study: &[u8]) -> Vec<u8> {
+        let mut bytes = Vec::new();
+        let mut last = 0;
+        let mut rest = study;
+        while let Some(&kind) = rest.first() {
+            let (record, after) = rest.split_at(record_length(kind).unwrap());
+            bytes.extend(record);
+            if kind == record::EFFECT {
+                let start = bytes.len() - record.len();
+                bytes[start] = record::TIMED_EFFECT;
+                bytes.push(last);
+                last = 1 - last;
+            }
+            rest = after;
+        }
+        bytes
+    }
+
     #[test]
     fn examples_whole_cut_short_and_damaged() {
         let mut seen = [0; 8];
@@ -607,8 +659,8 @@ mod tests {
                 seen[usize::from(same(bytes, size))] += 1;
             }
         };
-        for name in ["specimen.study", "resin-works.study"] {
-            let bytes = example(name);
+        let examples = ["specimen.study", "resin-works.study"].map(example);
+        for bytes in examples.iter().cloned().chain([timed(&examples[0])]) {
             assert!(Reader::new().piece(&bytes).number == number::TAKEN);
             for end in 0..=bytes.len() {
                 compare(&bytes[..end]);
@@ -632,6 +684,14 @@ mod tests {
         }
     }
 
+    /// The kind of an effect with this last byte, or with none.
+    fn effect_kind(last: &[u8]) -> u8 {
+        match last {
+            [] => record::EFFECT,
+            _ => record::TIMED_EFFECT,
+        }
+    }
+
     /// So many targets, then so many scenarios of one pool fire that works on
     /// all of them.
     fn fires(targets: u16, scenarios: u32) -> Vec<u8> {
@@ -649,10 +709,12 @@ mod tests {
             bytes.extend([record::OUTCOME, outcome::POOL_FIRE]);
             bytes.extend(targets.to_be_bytes());
             for target in 0..targets {
-                bytes.push(record::EFFECT);
+                let last = [&[][..], &[0], &[1]][usize::from(target % 3)];
+                bytes.push(effect_kind(last));
                 bytes.extend(target.to_be_bytes());
                 bytes.extend((scenario * 7 + 1).to_be_bytes());
                 bytes.extend([3, 0]);
+                bytes.extend(last);
             }
         }
         bytes
@@ -686,7 +748,7 @@ mod tests {
 
     #[test]
     fn effects_of_every_kind_on_every_class() {
-        let sums = |kind: u8, intensity: u32, duration: u16| {
+        let sums = |kind: u8, intensity: u32, duration: u16, last: &[u8]| {
             let mut bytes = fires(6, 0);
             bytes.extend([record::TARGET, 0, 6, 0, 1, 0, 0, 0, 0]);
             bytes.extend([record::TARGET, 0, 7, 0, 2, 0, 0, 0, 0]);
@@ -697,9 +759,10 @@ mod tests {
             bytes.extend([record::LEAK, 0, 0, 0, 9, 0, 0, 0, 1, 0, 0, 0, 0]);
             bytes.extend([record::OUTCOME, kind, 0, 18]);
             for target in 0..18 {
-                bytes.extend([record::EFFECT, 0, target]);
+                bytes.extend([effect_kind(last), 0, target]);
                 bytes.extend(intensity.to_be_bytes());
                 bytes.extend(duration.to_be_bytes());
+                bytes.extend(last);
             }
             bytes.extend([record::CLOSING, 0, 0, 0, 40, 0, 0, 0, 1, 0, 0, 0, 0]);
             assert_eq!(same(&bytes, 65_536), number::TAKEN);
@@ -708,12 +771,19 @@ mod tests {
         let steps = steps.chain((60_000..2_000_000).step_by(997));
         let steps = steps.chain((2_000_000..24_000_000).step_by(49_999));
         for intensity in steps.chain([40_000, 1_768_269, u32::MAX - 1, u32::MAX]) {
-            sums(outcome::EXPLOSION, intensity, 0);
+            sums(outcome::EXPLOSION, intensity, 0, &[]);
             for duration in [1, 19, 20, 21, 600, 601, 65_535] {
-                sums(outcome::JET_FIRE, intensity, duration);
+                sums(outcome::JET_FIRE, intensity, duration, &[]);
             }
+            for duration in [1, 199, 200, 201, 6_000, 6_001, 65_535] {
+                sums(outcome::FIREBALL, intensity, duration, &[1]);
+            }
+            sums(outcome::POOL_FIRE, intensity, 601, &[0]);
         }
-        sums(outcome::FLASH_FIRE, 0, 0);
-        sums(outcome::FLASH_FIRE, 1, 0);
+        for last in [&[][..], &[0], &[1]] {
+            sums(outcome::FLASH_FIRE, 0, 0, last);
+            sums(outcome::FLASH_FIRE, 1, 0, last);
+            sums(outcome::EXPLOSION, 80_000, 0, last);
+        }
     }
 }

@@ -10,8 +10,13 @@ pub struct Input {
     pub targets: u16,
 }
 
-pub fn inputs(seed: u64) -> [Input; 3] {
-    [effects(seed), deep_trees(seed), small_scenarios(seed)]
+pub fn inputs(seed: u64) -> [Input; 4] {
+    [
+        effects(seed),
+        timed_effects(seed),
+        deep_trees(seed),
+        small_scenarios(seed),
+    ]
 }
 
 /// Numbers from a seed (splitmix64).
@@ -29,6 +34,8 @@ impl Random {
 
 struct Maker {
     random: Random,
+    /// Whether effects are of kind 8; seven of eight are then in tenths.
+    timed: bool,
     bytes: Vec<u8>,
     records: u32,
     scenarios: u32,
@@ -40,6 +47,7 @@ impl Maker {
     fn new(seed: u64, targets: u16) -> Maker {
         let mut maker = Maker {
             random: Random(seed),
+            timed: false,
             bytes: Vec::new(),
             records: 0,
             scenarios: 0,
@@ -95,19 +103,43 @@ impl Maker {
         let last = self.targets - effects;
         let from = self.random.below(u64::from(last) + 1) as u16;
         for target in from..from + effects {
-            let (intensity, duration) = match kind {
-                1..=3 => (self.random.below(50_000), self.random.below(2_000) + 1),
-                4 => (self.random.below(2), 0),
-                _ => (self.random.below(200_000), 0),
-            };
+            self.effect(kind, target);
+        }
+    }
+
+    fn effect(&mut self, kind: u8, target: u16) {
+        let tenths = self.timed && self.random.below(8) > 0;
+        let longest = if tenths { 20_000 } else { 2_000 };
+        let (intensity, duration) = match kind {
+            1..=3 => (self.random.below(50_000), self.random.below(longest) + 1),
+            4 => (self.random.below(2), 0),
+            _ => (self.random.below(200_000), 0),
+        };
+        let (target, intensity) = (target.to_be_bytes(), (intensity as u32).to_be_bytes());
+        let duration = (duration as u16).to_be_bytes();
+        if self.timed {
+            let last = [u8::from(tenths)];
             self.record(
-                record::EFFECT,
-                &[
-                    &target.to_be_bytes(),
-                    &(intensity as u32).to_be_bytes(),
-                    &(duration as u16).to_be_bytes(),
-                ],
+                record::TIMED_EFFECT,
+                &[&target, &intensity, &duration, &last],
             );
+        } else {
+            self.record(record::EFFECT, &[&target, &intensity, &duration]);
+        }
+    }
+
+    /// Scenarios with many effects, up to about a million records.
+    fn effects(&mut self) {
+        while self.records < 998_000 {
+            self.leak();
+            self.branching();
+            self.outcome(0, 0);
+            self.branching();
+            for _ in 0..2 {
+                let kind = self.any_kind();
+                let effects = 100 + self.random.below(157) as u16;
+                self.outcome(kind, effects);
+            }
         }
     }
 
@@ -130,18 +162,16 @@ impl Maker {
 /// About a million records, nearly all of them effects on 256 targets.
 fn effects(seed: u64) -> Input {
     let mut maker = Maker::new(seed, 256);
-    while maker.records < 998_000 {
-        maker.leak();
-        maker.branching();
-        maker.outcome(0, 0);
-        maker.branching();
-        for _ in 0..2 {
-            let kind = maker.any_kind();
-            let effects = 100 + maker.random.below(157) as u16;
-            maker.outcome(kind, effects);
-        }
-    }
+    maker.effects();
     maker.closed("effects")
+}
+
+/// The same with effects of kind 8, most of them in tenths.
+fn timed_effects(seed: u64) -> Input {
+    let mut maker = Maker::new(seed, 256);
+    maker.timed = true;
+    maker.effects();
+    maker.closed("timed effects")
 }
 
 /// About a million records of trees in which every branching has two branches

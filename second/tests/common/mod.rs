@@ -61,6 +61,19 @@ impl Builder {
         )
     }
 
+    /// An effect whose last byte names its clock.
+    pub fn timed(self, target: u16, intensity: u32, duration: u16, last: u8) -> Builder {
+        self.record(
+            8,
+            &[
+                &target.to_be_bytes(),
+                &intensity.to_be_bytes(),
+                &duration.to_be_bytes(),
+                &[last],
+            ],
+        )
+    }
+
     pub fn closing(self, count: u32, sum: u64) -> Builder {
         self.record(7, &[&count.to_be_bytes(), &sum.to_be_bytes()])
     }

@@ -35,7 +35,7 @@ fn fault(random: &mut Random, records: &mut Vec<Record>, place: usize) {
 }
 
 fn unknown_kind(random: &mut Random, records: &mut Vec<Record>, place: usize) {
-    let kind = random.pick(&[0, 8, 9, 15, 16, 127, 128, 134, 255]);
+    let kind = random.pick(&[0, 9, 11, 15, 16, 127, 128, 134, 136, 255]);
     if random.percent(50) {
         records[place][0] = kind;
     } else {
@@ -64,7 +64,7 @@ fn order(random: &mut Random, records: &mut Vec<Record>, place: usize) {
 
 /// A record of any kind with fields of all sizes.
 fn any_record(random: &mut Random) -> Record {
-    match random.between(1, 7) as u8 {
+    match random.between(1, 8) as u8 {
         record::OPENING => studies::opening(random.any_size(32) as u32),
         record::TARGET => studies::target(
             random.below(4) as u16,
@@ -79,6 +79,12 @@ fn any_record(random: &mut Random) -> Record {
             random.below(4) as u16,
             random.any_size(32) as u32,
             random.any_size(16) as u16,
+        ),
+        record::TIMED_EFFECT => studies::timed(
+            random.below(4) as u16,
+            random.any_size(32) as u32,
+            random.any_size(16) as u16,
+            random.below(3) as u8,
         ),
         _ => studies::closing(random.any_size(8) as u32, random.any_size(46)),
     }
@@ -106,7 +112,7 @@ fn outcome_before(records: &[Record], place: usize) -> u8 {
 
 /// A field just outside its bounds, or far outside, or at a limit.
 fn field_near(random: &mut Random, records: &mut [Record], place: usize) {
-    let kinds = [2, 3, 4, 5, 6];
+    let kinds = [2, 3, 4, 5, 6, 8];
     let kind = random.pick(&kinds);
     let Some(place) = find(records, place, &[kind]).or_else(|| find(records, place, &kinds)) else {
         return;
@@ -146,6 +152,13 @@ fn field_near(random: &mut Random, records: &mut [Record], place: usize) {
 
 fn effect_field(random: &mut Random, bytes: &mut [u8], above: u8) {
     match above {
+        _ if bytes[0] == record::TIMED_EFFECT && random.percent(60) => {
+            bytes[9] = random.pick(&[2, 2, 3, 16, 127, 128, 255]);
+            // A target too that is not declared, or seldom may stand here.
+            if random.percent(25) {
+                set(bytes, 1, 2, random.pick(&[0, 256, 65_535]));
+            }
+        }
         outcome::FLASH_FIRE if random.percent(50) => {
             set(bytes, 3, 4, random.pick(&[2, 3, 256, 1 << 24, 1 << 31]));
         }
@@ -158,7 +171,7 @@ fn effect_field(random: &mut Random, bytes: &mut [u8], above: u8) {
 
 /// A target's, scenario's or effect's number that breaks its rule, or nearly.
 fn number_near(random: &mut Random, records: &mut [Record], place: usize) {
-    let kinds = [2, 3, 6, 6];
+    let kinds = [2, 3, 6, 8];
     let kind = random.pick(&kinds);
     let Some(place) = find(records, place, &[kind]).or_else(|| find(records, place, &kinds)) else {
         return;
@@ -263,7 +276,7 @@ pub fn fuzz(random: &mut Random, bytes: &mut Vec<u8>) {
         match random.below(7) {
             0 => bytes[place] ^= 1 << random.below(8),
             1 => bytes[place] = random.next() as u8,
-            2 => bytes[place] = random.below(9) as u8,
+            2 => bytes[place] = random.below(12) as u8,
             3 => bytes.insert(place, random.next() as u8),
             4 => {
                 bytes.remove(place);
@@ -287,7 +300,7 @@ pub fn noise(random: &mut Random) -> Vec<u8> {
     }
     for _ in 0..random.below(60) {
         bytes.push(if random.percent(50) {
-            random.below(9) as u8
+            random.below(12) as u8
         } else {
             random.next() as u8
         });

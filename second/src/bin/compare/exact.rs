@@ -4,9 +4,11 @@
 //! The exact sum is counted in parts of 10^-54 of a unit: a leak weighs its
 //! frequency times 10^48, an effect adds weight times chance.
 
+use crate::coverage;
 use crate::random::Random;
 use crate::studies::{self, Record, number};
-use second_desk::{Study, chance, record};
+use crate::timing::Timing;
+use second_desk::{Study, record};
 
 const MILLION: u64 = 1_000_000;
 
@@ -120,28 +122,13 @@ impl Exact<'_> {
         for _ in 0..number(record, 2, 2) {
             let effect = self.rest.next().expect("an effect");
             let target = number(effect, 1, 2) as usize;
-            let chance = effect_chance(record[1], self.targets[target], effect);
-            self.sums[target] = self.sums[target].plus(weight.times(chance));
+            let clock = Timing::of(effect).expect("an effect").clock();
+            let chance = coverage::chance(record[1], self.targets[target], effect, clock);
+            let part = weight.times(chance.unwrap_or(0).into());
+            self.sums[target] = self.sums[target].plus(part);
             self.margins[target] += above + 1;
         }
     }
-}
-
-fn effect_chance(kind: u8, target: &[u8], effect: &[u8]) -> u64 {
-    let (class, setting) = (target[3], target[4]);
-    let volume = number(target, 5, 4) as u32;
-    let intensity = number(effect, 3, 4) as u32;
-    let duration = number(effect, 7, 2) as u16;
-    u64::from(match (kind, class) {
-        (1..=3, 0) => chance::fire_death(setting, intensity, duration),
-        (1..=3, _) => chance::volume_term(class, volume).map_or(0, |term| {
-            chance::fire_damage(class, term, intensity, duration)
-        }),
-        (4, 0) => chance::flash_death(intensity),
-        (5, 0) => chance::blast_death(setting, intensity),
-        (5, _) => chance::blast_damage(class, intensity),
-        _ => 0,
-    })
 }
 
 #[test]

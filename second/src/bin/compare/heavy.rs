@@ -3,6 +3,7 @@
 use crate::lists::{domino, one_target, piece};
 use crate::random::Random;
 use crate::studies::{self, Facts, Record};
+use crate::timing::{self, Timing};
 
 /// A large study's name and its list of calls.
 pub struct Heavy {
@@ -21,7 +22,7 @@ pub fn heavy(seed: u64, index: u64) -> Heavy {
         1 => ("1,000,001 records", effects(random, most + 1).closed()),
         2 => (
             "1,000,000 records and an unknown kind",
-            effects(random, most + 1).with(vec![9]),
+            effects(random, most + 1).with(vec![11]),
         ),
         3 => (
             "1,000,000 records and one out of order",
@@ -76,8 +77,8 @@ impl Open {
     fn cut_outcome(mut self) -> Vec<u8> {
         self.leak(u32::MAX, 5);
         self.push(studies::outcome(5, 9));
-        for target in 0..9 {
-            self.push(studies::effect(target, 80_000, 0));
+        for (target, timing) in (0..9).zip(Timing::ALL.into_iter().cycle()) {
+            self.push(timing.effect(target, 80_000, 0));
         }
         self.bytes
     }
@@ -136,9 +137,11 @@ fn effects(random: &mut Random, records: u32) -> Open {
         };
         open.leak(scenario, studies::frequency(random));
         open.push(studies::outcome(kind, count as u16));
+        let timing = timing::of_outcome(random);
         for target in 0..count as u16 {
-            let (intensity, duration) = studies::effect_values(random, kind, facts(target));
-            open.push(studies::effect(target, intensity, duration));
+            let facts = facts(target);
+            let effect = studies::valid_effect(random, kind, timing, target, facts);
+            open.push(effect);
         }
         scenario += 1;
     }

@@ -9,6 +9,7 @@ mod heavy;
 mod lists;
 mod random;
 mod studies;
+mod timing;
 
 use coverage::Seen;
 use std::io::{ErrorKind, Read, Write};
@@ -223,6 +224,37 @@ fn show(difference: &Difference) {
     }
 }
 
+/// Prints how often each case came up. Gives whether all did.
+fn cases(seen: &Seen, lists_with: &Seen) -> bool {
+    let mut all = true;
+    for (group, lists) in seen.groups().iter().zip(lists_with.groups()) {
+        let heading = format!("{}:", group.heading);
+        for (i, words) in group.names.iter().enumerate() {
+            let (count, lists) = (group.counts[i], lists.counts[i]);
+            println!("{heading:22}{count:9} in {lists:7} lists  {words}");
+        }
+        if group.counts.contains(&0) {
+            println!("{heading} one of these was never seen");
+            all = false;
+        }
+    }
+    for (words, i) in coverage::CHANGED {
+        let (count, lists) = (seen.entries[i], lists_with.entries[i]);
+        println!("chance of damage:     {count:9} in {lists:7} lists  {words}");
+    }
+    let met = |counts: &[u64]| counts.iter().filter(|&&count| count > 0).count();
+    let (entries, cuts) = (met(&seen.entries), met(&seen.cuts));
+    println!(
+        "entries of the probit table: {entries} of {} gave a chance",
+        coverage::ENTRIES
+    );
+    println!(
+        "places inside a record of kind 8: {cuts} of {} were a piece's end",
+        coverage::CUTS
+    );
+    all && entries == coverage::ENTRIES && cuts == coverage::CUTS
+}
+
 fn summary(options: &Options, tally: &Tally, seconds: f64) -> bool {
     let lists = heavy::COUNT + options.count;
     println!(
@@ -239,21 +271,7 @@ fn summary(options: &Options, tally: &Tally, seconds: f64) -> bool {
         let lists = tally.lists[number];
         println!("answer {number:2}: {count:9} in {lists:7} lists  {words}");
     }
-    let (seen, lists_with) = (&tally.seen, &tally.seen_lists);
-    for (i, words) in coverage::SPHERES.iter().enumerate() {
-        let (count, lists) = (seen.spheres[i], lists_with.spheres[i]);
-        println!("class 2 in a fire: {count:9} in {lists:7} lists  {words}");
-    }
-    for (words, i) in coverage::CHANGED {
-        let (count, lists) = (seen.entries[i], lists_with.entries[i]);
-        println!("chance of damage:  {count:9} in {lists:7} lists  {words}");
-    }
-    let missing = seen.entries.iter().filter(|&&count| count == 0).count();
-    println!(
-        "entries of the probit table: {} of {} gave a chance",
-        coverage::ENTRIES - missing,
-        coverage::ENTRIES
-    );
+    let all_cases = cases(&tally.seen, &tally.seen_lists);
     if let Some(difference) = &tally.first {
         show(difference);
     }
@@ -261,11 +279,7 @@ fn summary(options: &Options, tally: &Tally, seconds: f64) -> bool {
     if unanswered {
         println!("a number from 0 to 10 was never answered");
     }
-    let unseen = seen.spheres.contains(&0);
-    if unseen {
-        println!("class 2 in a fire: one of the four was never seen");
-    }
-    !unanswered && !unseen && missing == 0 && tally.agreed == lists
+    !unanswered && all_cases && tally.agreed == lists
 }
 
 fn main() -> ExitCode {

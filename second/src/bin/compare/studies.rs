@@ -1,7 +1,8 @@
 //! Valid studies of all shapes, with values at and around the rules' limits.
 
 use crate::random::Random;
-use second_desk::chance;
+use crate::timing::{self, Timing};
+use second_desk::chance::{self, Clock};
 use second_desk::logarithm::THRESHOLDS;
 use second_desk::probit;
 use second_desk::record::{self, outcome};
@@ -43,6 +44,14 @@ pub fn effect(target: u16, intensity: u32, duration: u16) -> Record {
     bytes.extend(target.to_be_bytes());
     bytes.extend(intensity.to_be_bytes());
     bytes.extend(duration.to_be_bytes());
+    bytes
+}
+
+/// An effect whose last byte names its clock.
+pub fn timed(target: u16, intensity: u32, duration: u16, last: u8) -> Record {
+    let mut bytes = effect(target, intensity, duration);
+    bytes[0] = record::TIMED_EFFECT;
+    bytes.push(last);
     bytes
 }
 
@@ -231,10 +240,11 @@ impl Maker<'_> {
             self.named_targets()
         };
         self.records.push(outcome(kind, named.len() as u16));
+        let timing = timing::of_outcome(self.random);
         for number in named {
             let facts = self.targets[usize::from(number)];
-            let (intensity, duration) = effect_values(self.random, kind, facts);
-            self.records.push(effect(number, intensity, duration));
+            let effect = valid_effect(self.random, kind, timing, number, facts);
+            self.records.push(effect);
         }
     }
 
@@ -274,31 +284,51 @@ pub fn chance_of_branch(random: &mut Random) -> u32 {
     }
 }
 
-/// Intensity and duration of a valid effect.
-pub fn effect_values(random: &mut Random, kind: u8, facts: Facts) -> (u32, u16) {
+/// A valid effect of an outcome whose effects have this timing, or each one its
+/// own.
+pub fn valid_effect(
+    random: &mut Random,
+    kind: u8,
+    timing: Option<Timing>,
+    target: u16,
+    facts: Facts,
+) -> Record {
+    let timing = timing.unwrap_or_else(|| random.pick(&Timing::ALL));
+    let (intensity, duration) = effect_values(random, kind, facts, timing.clock());
+    timing.effect(target, intensity, duration)
+}
+
+/// Intensity and duration of a valid effect by a clock.
+fn effect_values(random: &mut Random, kind: u8, facts: Facts, clock: &Clock) -> (u32, u16) {
+    let limit = clock.limit;
     match kind {
         outcome::FLASH_FIRE => (random.below(2) as u32, 0),
         outcome::EXPLOSION => (overpressure(random, facts), 0),
         _ if facts.edge_heat > 0 && random.percent(40) => {
-            (facts.edge_heat, random.pick(&[601, 602, 4_632, 65_535]))
+            let durations = [limit, limit + 1, limit + 2, limit + 4_032, 65_535];
+            (facts.edge_heat, random.pick(&durations))
         }
         _ => {
-            let duration = duration(random, facts);
-            (heat(random, facts, duration), duration)
+            let duration = duration(random, facts, clock);
+            (heat(random, facts, clock, duration), duration)
         }
     }
 }
 
-fn duration(random: &mut Random, facts: Facts) -> u16 {
+fn duration(random: &mut Random, facts: Facts, clock: &Clock) -> u16 {
+    let Clock { longest, limit, .. } = *clock;
     match random.below(4) {
-        0 => random.between(1, 22) as u16,
-        1 => random.pick(&[1, 19, 20, 21, 599, 600, 601, 602, 4_632, 65_535]),
-        2 if facts.class != 0 => random.between(595, 700) as u16,
+        0 => random.between(1, u64::from(longest) + 2) as u16,
+        1 if facts.class == 0 => random.pick(&[1, longest - 1, longest, longest + 1, 65_535]),
+        1 => random.pick(&[1, limit - 1, limit, limit + 1, limit + 2, 65_535]),
+        2 if facts.class != 0 => {
+            random.between(u64::from(limit) - 5, u64::from(limit) + 100) as u16
+        }
         _ => random.between(1, 65_535) as u16,
     }
 }
 
-fn heat(random: &mut Random, facts: Facts, duration: u16) -> u32 {
+fn heat(random: &mut Random, facts: Facts, clock: &Clock, duration: u16) -> u32 {
     match (random.below(6), facts.class) {
         (0, 0) => random.pick(&[0, 1, 2, 3, 34_999, 35_000, 35_001]),
         (0, 2) => random.pick(&[0, 1, 39_999, 40_000, 40_001, 40_002]),
@@ -309,7 +339,7 @@ fn heat(random: &mut Random, facts: Facts, duration: u16) -> u32 {
         (2, _) => step_value(random),
         (3, _) => random.any_size(32) as u32,
         (_, 0) => edge_of_chance(random, |heat| {
-            probit::chance(chance::fire_death_probit(heat, duration))
+            probit::chance(chance::fire_death_probit(clock, heat, duration))
         }),
         (_, class) => {
             let volume = chance::volume_term(class, facts.volume).unwrap_or(0);
