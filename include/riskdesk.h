@@ -72,7 +72,14 @@ enum riskdesk_record {
     RISKDESK_RECORD_BRANCHING = 4,
     RISKDESK_RECORD_OUTCOME = 5,
     RISKDESK_RECORD_EFFECT = 6,
-    RISKDESK_RECORD_CLOSING = 7
+    RISKDESK_RECORD_CLOSING = 7,
+    RISKDESK_RECORD_TIMED_EFFECT = 8 /* an effect with a last byte, enum riskdesk_unit */
+};
+
+/* The units of a duration: the last byte of a timed effect. Effects of kind 6 are in seconds. */
+enum riskdesk_unit {
+    RISKDESK_UNIT_SECONDS = 0,
+    RISKDESK_UNIT_TENTHS = 1 /* tenths of a second */
 };
 
 /* The classes of targets. */

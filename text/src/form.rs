@@ -11,6 +11,8 @@ pub(crate) const BRANCHING: u8 = 4;
 pub(crate) const OUTCOME: u8 = 5;
 pub(crate) const EFFECT: u8 = 6;
 pub(crate) const CLOSING: u8 = 7;
+/// An effect with a last byte that names the unit of its duration.
+pub(crate) const TIMED_EFFECT: u8 = 8;
 
 /// The word of a line of bytes that are no whole record.
 pub(crate) const RAW: &str = "raw";
@@ -56,7 +58,10 @@ pub(crate) enum Rule {
     Effects,
     /// By the kind of the outcome that the effect belongs to.
     Intensity,
-    Duration,
+    /// The same; the unit of a fire's duration.
+    Duration(&'static str),
+    /// An effect's last byte.
+    LastByte,
 }
 
 /// The least and the greatest number of a field, and their unit in words.
@@ -107,12 +112,13 @@ impl Rule {
                 Some(EXPLOSION) => (0, u32::MAX.into(), ", in Pa"),
                 _ => (0, u32::MAX.into(), ", in W/m² or Pa"),
             },
-            Rule::Duration => match outcome {
-                Some(POOL_FIRE..=FIREBALL) => (1, u16::MAX.into(), ", in seconds"),
+            Rule::Duration(unit) => match outcome {
+                Some(POOL_FIRE..=FIREBALL) => (1, u16::MAX.into(), unit),
                 Some(FLASH_FIRE) => (0, 0, " for a flash fire"),
                 Some(EXPLOSION) => (0, 0, " for an explosion"),
-                _ => (0, u16::MAX.into(), ", in seconds"),
+                _ => (0, u16::MAX.into(), unit),
             },
+            Rule::LastByte => (0, 1, " (0 seconds, 1 tenths of a second)"),
         };
         Bounds { least, most, unit }
     }
@@ -180,7 +186,9 @@ impl Form {
     }
 }
 
-pub(crate) const FORMS: [Form; 7] = [
+/// The forms by kind. A line that starts with a word has the first form of that
+/// word, but for an effect whose duration has a unit.
+pub(crate) const FORMS: [Form; 8] = [
     Form {
         kind: OPENING,
         word: "study",
@@ -231,7 +239,7 @@ pub(crate) const FORMS: [Form; 7] = [
         fields: &[
             number("target", 2, Rule::Numbering(u16::MAX as u64)),
             number("intensity", 4, Rule::Intensity),
-            number("duration", 2, Rule::Duration),
+            number("duration", 2, Rule::Duration(", in seconds")),
         ],
     },
     Form {
@@ -242,7 +250,50 @@ pub(crate) const FORMS: [Form; 7] = [
             number("sum", 8, Rule::Range(0, u64::MAX, FREQUENCY_UNIT)),
         ],
     },
+    Form {
+        kind: TIMED_EFFECT,
+        word: "effect",
+        fields: &[
+            number("target", 2, Rule::Numbering(u16::MAX as u64)),
+            number("intensity", 4, Rule::Intensity),
+            number("duration", 2, Rule::Duration(", in seconds or tenths")),
+            number("last byte", 1, Rule::LastByte),
+        ],
+    },
 ];
+
+/// The unit of a duration by an effect's last byte, as it stands right after the
+/// duration.
+#[cfg(feature = "desk")]
+pub(crate) fn unit_of(last_byte: u64) -> String {
+    match last_byte {
+        0 => "s".into(),
+        1 => "t".into(),
+        number => format!("u{number}"),
+    }
+}
+
+/// The last byte of a unit, in digits; none where it is no unit.
+pub(crate) fn last_byte_of(unit: &str) -> Option<&str> {
+    match unit {
+        "s" => Some("0"),
+        "t" => Some("1"),
+        _ => unit
+            .strip_prefix('u')
+            .filter(|number| !number.is_empty() && number.bytes().all(|n| n.is_ascii_digit())),
+    }
+}
+
+/// The words of some forms, each one once.
+pub(crate) fn words_of<'a>(forms: impl Iterator<Item = &'a Form>) -> Vec<&'static str> {
+    let mut words = Vec::new();
+    for form in forms {
+        if !words.contains(&form.word) {
+            words.push(form.word);
+        }
+    }
+    words
+}
 
 /// The form of a kind byte.
 pub(crate) fn form_of(kind: u8) -> Option<&'static Form> {
@@ -259,7 +310,16 @@ mod tests {
             .iter()
             .map(|form| (form.kind, form.length()))
             .collect();
-        let expected = [(1, 5), (2, 9), (3, 13), (4, 5), (5, 4), (6, 9), (7, 13)];
+        let expected = [
+            (1, 5),
+            (2, 9),
+            (3, 13),
+            (4, 5),
+            (5, 4),
+            (6, 9),
+            (7, 13),
+            (8, 10),
+        ];
         assert_eq!(lengths, expected);
     }
 }

@@ -7,7 +7,7 @@
 //! | `leak SCENARIO FREQUENCY` | leak |
 //! | `branching CHANCE` | branching |
 //! | `outcome KIND EFFECTS` | outcome |
-//! | `effect TARGET INTENSITY DURATION` | effect |
+//! | `effect TARGET INTENSITY DURATION` | effect; of kind 8 with a unit, as `20s`, `200t` |
 //! | `closing` or `closing COUNT SUM` | closing |
 //! | `raw BYTE ...` | bytes in hexadecimal that are no whole record |
 //!

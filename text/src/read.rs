@@ -1,6 +1,9 @@
 //! From text to bytes.
 
-use crate::form::{CLOSING, FORMS, Field, Form, LEAK, OUTCOME, RAW};
+use crate::form::{
+    CLOSING, EFFECT, FORMS, Field, Form, LEAK, OUTCOME, RAW, Rule, TIMED_EFFECT, form_of,
+    last_byte_of, words_of,
+};
 use crate::parts::parts;
 use std::fmt;
 
@@ -103,12 +106,42 @@ impl Writer {
         if form.kind == CLOSING && values.is_empty() {
             return self.closing();
         }
+        let (form, values) = self.parted(form, values)?;
         self.bytes.push(form.kind);
-        let numbers = self.fields(form, values)?;
+        let numbers = self.fields(form, &values)?;
         if form.kind == OUTCOME {
             self.outcome = Some(numbers[0]);
         }
         Ok(())
+    }
+
+    /// The form of a line and its values. Where an effect's duration has a unit, it
+    /// is parted from it and stands after it as the last byte's number.
+    fn parted<'a>(
+        &self,
+        form: &'static Form,
+        values: &[&'a str],
+    ) -> Result<(&'static Form, Vec<&'a str>), String> {
+        let mut values = values.to_vec();
+        let timed = form_of(TIMED_EFFECT).filter(|_| form.kind == EFFECT);
+        let (Some(timed), Some(&duration)) = (timed, values.get(2)) else {
+            return Ok((form, values));
+        };
+        let end = duration.find(|letter: char| !letter.is_ascii_digit());
+        let Some(end) = end else {
+            return Ok((form, values));
+        };
+        let (time, unit) = duration.split_at(end);
+        let last = last_byte_of(unit).filter(|_| !time.is_empty()).ok_or_else(|| {
+            let (expected, _) = self.expected(&timed.fields[2], &[]);
+            let duration = duration.escape_debug();
+            format!(
+                "duration: expected {expected}, in digits alone or followed by s (seconds) or t \
+                 (tenths of a second), found '{duration}'"
+            )
+        })?;
+        values.splice(2..3, [time, last]);
+        Ok((timed, values))
     }
 
     fn fields(&mut self, form: &Form, values: &[&str]) -> Result<Vec<u64>, String> {
@@ -145,10 +178,7 @@ impl Writer {
             None => None,
         };
         let bounds = field.rule.bounds(earlier, self.outcome);
-        let (expected, single) = match self.limits {
-            Limits::Rules => (bounds.to_string(), bounds.single()),
-            Limits::Bytes => (format!("0 to {}", field.most()), false),
-        };
+        let (expected, single) = self.expected(field, earlier);
         let allowed = |&number: &u64| match self.limits {
             Limits::Rules => bounds.allow(number),
             Limits::Bytes => number <= field.most(),
@@ -167,6 +197,15 @@ impl Writer {
             let (name, value) = (field.name, value.escape_debug());
             format!("{name}: expected {words}{expected}{form}, found '{value}'")
         })
+    }
+
+    /// The numbers that a field may have, in words, and whether it is one alone.
+    fn expected(&self, field: &Field, earlier: &[u64]) -> (String, bool) {
+        let bounds = field.rule.bounds(earlier, self.outcome);
+        match self.limits {
+            Limits::Rules => (bounds.to_string(), bounds.single()),
+            Limits::Bytes => (format!("0 to {}", field.most()), false),
+        }
     }
 
     /// A closing with the count and sum of the records so far.
@@ -211,15 +250,17 @@ impl Writer {
 }
 
 fn unknown_word(word: &str) -> String {
-    let words: Vec<&str> = FORMS.iter().map(|form| form.word).collect();
+    let words = words_of(FORMS.iter());
     let word = word.escape_debug();
     format!("expected {} or {RAW}, found '{word}'", words.join(", "))
 }
 
-/// The line of a form: its word and the names of its fields.
+/// The line of a form: its word and the names of its fields. A last byte is
+/// part of the duration.
 fn layout(form: &Form) -> String {
     let mut line = form.word.to_string();
-    for field in form.fields {
+    let fields = form.fields.iter();
+    for field in fields.filter(|field| field.rule != Rule::LastByte) {
         line.push(' ');
         line += &field.name.to_uppercase();
     }

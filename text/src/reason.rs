@@ -1,7 +1,9 @@
 //! Why the desk refuses, in words. The number and the place are the desk's;
 //! the words are made from them and from the records before the place.
 
-use crate::form::{BRANCHING, EFFECT, FORMS, Form, LEAK, OUTCOME, Rule, TARGET};
+use crate::form::{
+    BRANCHING, EFFECT, FORMS, Form, LEAK, OUTCOME, Rule, TARGET, TIMED_EFFECT, words_of,
+};
 use crate::parts::{Part, bytes_in_words, parts};
 use riskdesk::{Answer, Study};
 
@@ -98,8 +100,7 @@ fn expected_kinds(before: &[u8]) -> String {
         record[0] = form.kind;
         study.clone().feed(&record).number != ORDER
     });
-    let words: Vec<&str> = allowed.map(|form| form.word).collect();
-    words.join(" or ")
+    words_of(allowed).join(" or ")
 }
 
 fn not_closed(bytes: &[u8]) -> Option<String> {
@@ -153,7 +154,7 @@ impl Before {
                 self.outcome = Some(numbers[0]);
                 self.last_effect = None;
             }
-            EFFECT => self.last_effect = Some(numbers[0]),
+            EFFECT | TIMED_EFFECT => self.last_effect = Some(numbers[0]),
             _ => {}
         }
     }
@@ -178,12 +179,12 @@ impl Before {
                 let last = self.last_scenario?;
                 Some(format!("the scenario number must be above {last}"))
             }
-            EFFECT if number >= self.targets => Some(match self.targets {
+            EFFECT | TIMED_EFFECT if number >= self.targets => Some(match self.targets {
                 0 => "no target is declared".into(),
                 1 => "target 0 alone is declared".into(),
                 targets => format!("targets 0 to {} are declared", targets - 1),
             }),
-            EFFECT => {
+            EFFECT | TIMED_EFFECT => {
                 let last = self.last_effect?;
                 Some(format!("the target must be above {last}"))
             }

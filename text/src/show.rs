@@ -1,6 +1,6 @@
 //! From bytes to text, with the place of each record and the refusal.
 
-use crate::form::{Field, Form, RAW, TARGET, form_of};
+use crate::form::{Field, Form, RAW, Rule, TARGET, form_of, unit_of};
 use crate::parts::{Part, bytes_in_words, parts};
 use crate::reason::{AFTER_CLOSING, NOT_CLOSED, TAKEN, reason};
 use riskdesk::{Answer, Study};
@@ -151,6 +151,10 @@ fn record_words(form: &Form, record: &[u8]) -> String {
     let mut line = form.word.to_string();
     let people = record[0] != TARGET || record[3] == 0;
     for (field, number) in form.fields.iter().zip(form.numbers(record)) {
+        if field.rule == Rule::LastByte {
+            line += &unit_of(number);
+            continue;
+        }
         line.push(' ');
         line += &field_text(field, number, people);
     }

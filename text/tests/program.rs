@@ -287,7 +287,7 @@ mod show {
         folder.file("good.study", &specimen());
         folder.file("cut.study", &specimen()[..97]);
         folder.file("more.study", &[specimen(), vec![0]].concat());
-        folder.file("bad.study", &[1, 0, 0, 0, 1, 8]);
+        folder.file("bad.study", &[1, 0, 0, 0, 1, 11]);
         folder.file("empty.study", b"");
         for (name, status, last) in [
             ("good.study", 0, "# closed after 98 bytes\n"),

@@ -64,12 +64,60 @@ fn vectors_have_the_answer_expected() {
             }
         }
     }
-    assert_eq!(refused, 26);
+    assert_eq!(refused, 29);
+}
+
+/// The specimen with its effects as kind 8.
+fn timed_specimen() -> Vec<u8> {
+    let text = show(&specimen());
+    let text = text.replace("12500 20 ", "12500 200t ");
+    let text = text.replace("20000 0 ", "20000 0s ");
+    any(&text.replace("70000 0 ", "70000 0t ")).unwrap()
+}
+
+#[test]
+fn effects_of_kind_8() {
+    let bytes = timed_specimen();
+    assert_eq!(bytes.len(), 101);
+    assert_eq!([bytes[45], bytes[64], bytes[74]], [8; 3]);
+    let text = show(&bytes);
+    for line in [
+        "effect 0 12500 200t                         # at 45",
+        "effect 0 20000 0s                           # at 64",
+        "effect 1 70000 0t                           # at 74",
+        "# closed after 101 bytes",
+    ] {
+        assert!(text.lines().any(|shown| shown == line), "{line}\n{text}");
+    }
+    assert_eq!(common::ruled(&text), Ok(bytes));
+}
+
+#[test]
+fn every_last_byte_gives_itself_back() {
+    let mut bytes = timed_specimen();
+    for last in 0..=255 {
+        bytes[54] = last;
+        let text = shown(&bytes, Extent::All);
+        let unit = match last {
+            0 => "s".into(),
+            1 => "t".into(),
+            _ => format!("u{last}"),
+        };
+        let line = format!("\neffect 0 12500 200{unit} ");
+        assert!(text.contains(&line), "{text}");
+        assert_eq!(any(&text).as_ref(), Ok(&bytes));
+        assert_eq!(common::ruled(&text).is_ok(), last < 2);
+        assert_eq!(verdict(&bytes).number, if last < 2 { 0 } else { 3 });
+    }
 }
 
 #[test]
 fn any_bytes_give_themselves_back() {
-    let mut bytes = specimen();
+    changed_bytes_give_themselves_back(specimen());
+    changed_bytes_give_themselves_back(timed_specimen());
+}
+
+fn changed_bytes_give_themselves_back(mut bytes: Vec<u8>) {
     let mut state = 1u32;
     for _ in 0..2_000 {
         state = state.wrapping_mul(1_664_525).wrapping_add(1_013_904_223);
@@ -114,10 +162,10 @@ fn the_examples_are_good() {
 
 /// A study that is refused: its lines after `study 1`, and what its last line
 /// says of it.
-const REFUSALS: [(&str, &str); 23] = [
+const REFUSALS: [(&str, &str); 28] = [
     (
-        "raw 08",
-        "1 at 5, line 2 of this text: unknown kind byte: the byte 08 starts no record, \
+        "raw 0b",
+        "1 at 5, line 2 of this text: unknown kind byte: the byte 0b starts no record, \
          or a record before it has a wrong length",
     ),
     (
@@ -177,6 +225,22 @@ const REFUSALS: [(&str, &str); 23] = [
          duration: expected 1 to 65535, in seconds, found 0",
     ),
     (
+        "target 0 0 0 0\nleak 1 1\noutcome fireball 1\neffect 0 2 0t",
+        "3 at 31, line 5 of this text: a field outside its bounds: \
+         duration: expected 1 to 65535, in seconds or tenths, found 0",
+    ),
+    (
+        "target 0 0 0 0\nleak 1 1\noutcome fireball 1\neffect 0 2 20u2",
+        "3 at 31, line 5 of this text: a field outside its bounds: \
+         last byte: expected 0 or 1 (0 seconds, 1 tenths of a second), found 2",
+    ),
+    // The last byte is judged before the target.
+    (
+        "target 0 0 0 0\nleak 1 1\noutcome explosion 1\neffect 1 2 0u255",
+        "3 at 31, line 5 of this text: a field outside its bounds: \
+         last byte: expected 0 or 1 (0 seconds, 1 tenths of a second), found 255",
+    ),
+    (
         "target 1 0 0 0",
         "4 at 5, line 2 of this text: a target or scenario number breaks its rule: \
          the next target is 0",
@@ -202,6 +266,11 @@ const REFUSALS: [(&str, &str); 23] = [
          the target must be above 0",
     ),
     (
+        "target 0 0 0 0\nleak 1 1\noutcome 1 2\neffect 0 1 1t\neffect 0 1 1s",
+        "4 at 41, line 6 of this text: a target or scenario number breaks its rule: \
+         the target must be above 0",
+    ),
+    (
         "leak 1 7\noutcome 0 0\nclosing 5 8",
         "6 at 22, line 4 of this text: closing count or sum differs: expected count 4 and sum 7",
     ),
@@ -217,6 +286,11 @@ const REFUSALS: [(&str, &str); 23] = [
         "raw 02 00",
         "8 at 7, line 2 of this text: report asked before the closing record: \
          the last record is cut short, 2 of 9 bytes",
+    ),
+    (
+        "leak 1 1\nraw 08 00 00 00 00 30 d4 00 14",
+        "8 at 27, line 3 of this text: report asked before the closing record: \
+         the last record is cut short, 9 of 10 bytes",
     ),
     (
         "leak 1 1",

@@ -34,13 +34,18 @@ fn the_examples() {
 
 #[test]
 fn each_record_has_its_bytes() {
-    let records: [(&str, &[u8]); 8] = [
+    let records: [(&str, &[u8]); 13] = [
         ("study 7", &[1, 0, 0, 0, 7]),
         ("target 258 pipe 2 3", &[2, 1, 2, 5, 2, 0, 0, 0, 3]),
         ("leak 1 258", &[3, 0, 0, 0, 1, 0, 0, 0, 0, 0, 0, 1, 2]),
         ("branching 250000", &[4, 0, 3, 0xd0, 0x90]),
         ("outcome explosion 256", &[5, 5, 1, 0]),
         ("effect 1 70000 20", &[6, 0, 1, 0, 1, 0x11, 0x70, 0, 20]),
+        ("effect 1 70000 20s", &[8, 0, 1, 0, 1, 0x11, 0x70, 0, 20, 0]),
+        ("effect 1 5 6001t", &[8, 0, 1, 0, 0, 0, 5, 0x17, 0x71, 1]),
+        ("effect 1 5 20u0", &[8, 0, 1, 0, 0, 0, 5, 0, 20, 0]),
+        ("effect 1 5 20u1", &[8, 0, 1, 0, 0, 0, 5, 0, 20, 1]),
+        ("effect 1 5 20u255", &[8, 0, 1, 0, 0, 0, 5, 0, 20, 255]),
         ("closing 4 7", &[7, 0, 0, 0, 4, 0, 0, 0, 0, 0, 0, 0, 7]),
         ("raw 00 fF", &[0, 255]),
     ];
@@ -158,7 +163,7 @@ struct Edge {
     expected: &'static str,
 }
 
-const EDGES: [Edge; 17] = [
+const EDGES: [Edge; 20] = [
     Edge {
         line: "study {}",
         good: &["0", "4294967295"],
@@ -262,11 +267,71 @@ const EDGES: [Edge; 17] = [
     },
     Edge {
         line: "outcome explosion 1 \n effect 0 0 {}",
-        good: &["0"],
+        good: &["0", "0s", "0t"],
         bad: &["1"],
         expected: "duration: expected 0 for an explosion, found",
     },
+    Edge {
+        line: "outcome fireball 1 \n effect 0 0 {}t",
+        good: &["1", "65535"],
+        bad: &["0", "65536"],
+        expected: "duration: expected 1 to 65535, in seconds or tenths, found",
+    },
+    Edge {
+        line: "outcome flash-fire 1 \n effect 0 0 {}s",
+        good: &["0"],
+        bad: &["1"],
+        expected: "duration: expected 0 for a flash fire, found",
+    },
+    Edge {
+        line: "outcome jet-fire 1 \n effect 0 0 9u{}",
+        good: &["0", "1"],
+        bad: &["2", "255", "256"],
+        expected: "last byte: expected 0 or 1 (0 seconds, 1 tenths of a second), found",
+    },
 ];
+
+#[test]
+fn units_of_durations() {
+    let units = "in digits alone or followed by s (seconds) or t (tenths of a second)";
+    for value in [
+        "20x", "x", "s", "t", "u2", "20u", "20S", "20ss", "1.5s", "20u-1", "20ux", "-5",
+    ] {
+        let line = format!("outcome fireball 1\neffect 0 12500 {value}");
+        assert_eq!(
+            error(&line),
+            format!(
+                "line 2: duration: expected 1 to 65535, in seconds or tenths, {units}, \
+                 found '{value}'"
+            )
+        );
+        assert_eq!(
+            any_error(&line),
+            format!("line 2: duration: expected 0 to 65535, {units}, found '{value}'")
+        );
+    }
+    assert_eq!(
+        error("outcome explosion 1\neffect 0 12500 0m"),
+        format!("line 2: duration: expected 0 for an explosion, {units}, found '0m'")
+    );
+    assert_eq!(
+        any_error("effect 0 12500 20u256"),
+        "line 1: last byte: expected 0 to 255, found '256'"
+    );
+    // A unit is part of its duration's word, and a duration's alone.
+    for line in ["effect 0 12500 20 s", "effect 0 12500 20s 1"] {
+        let wrong = error(line);
+        let expected = "line 1: expected effect TARGET INTENSITY DURATION and nothing more, found";
+        assert!(wrong.starts_with(expected), "{wrong}");
+    }
+    assert!(error("effect 0 12500s 20").starts_with("line 1: intensity: expected "));
+    assert!(error("effect 0s 12500 20t").starts_with("line 1: target: expected "));
+    assert!(error("closing 1 2 3s").ends_with("and nothing more, found '3s'"));
+    assert_eq!(
+        error("effect 0 12500"),
+        "line 1: expected effect TARGET INTENSITY DURATION: the duration is missing"
+    );
+}
 
 #[test]
 fn bounds_of_the_rules_are_errors() {
@@ -294,6 +359,8 @@ fn any_number_that_fits_its_bytes() {
         "outcome 255 65535",
         "outcome flash-fire 1\neffect 0 2 65535",
         "outcome pool-fire 1\neffect 0 0 0",
+        "outcome pool-fire 1\neffect 0 0 0t",
+        "outcome pool-fire 1\neffect 0 0 9u2",
     ];
     for text in fitting {
         assert!(any(text).is_ok(), "{text}");

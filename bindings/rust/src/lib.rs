@@ -45,7 +45,7 @@ mod archive;
 mod terms;
 
 pub use answer::Answer;
-pub use terms::{class, number, outcome, record, setting};
+pub use terms::{class, number, outcome, record, setting, unit};
 
 /// A study being read.
 ///

@@ -36,6 +36,17 @@ pub mod record {
     pub const OUTCOME: u8 = 5;
     pub const EFFECT: u8 = 6;
     pub const CLOSING: u8 = 7;
+    /// An effect with a last byte, a number of [`unit`](super::unit).
+    pub const TIMED_EFFECT: u8 = 8;
+}
+
+/// The units of a duration: the last byte of a timed effect. Effects of kind 6
+/// are in seconds.
+pub mod unit {
+    /// Seconds.
+    pub const SECONDS: u8 = 0;
+    /// Tenths of a second.
+    pub const TENTHS: u8 = 1;
 }
 
 /// The classes of targets. All but the first are equipment.

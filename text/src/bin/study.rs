@@ -41,7 +41,8 @@ A text has one record a line, and # starts a comment:
   outcome KIND EFFECTS                  no-effect, pool-fire, jet-fire, fireball,
                                         flash-fire, explosion; effects that follow
   effect TARGET INTENSITY DURATION      W/m², Pa, or 1 inside the lower flammable
-                                        limit; seconds, 0 but for fires
+                                        limit; seconds, 0 but for fires. As kind 8:
+                                        20s in seconds, 200t in tenths
   closing                               its count and sum are filled in";
 
 const STANDARD_OUTPUT: &str = "standard output";
