@@ -80,6 +80,62 @@ struct Branch {
     above: u8,
 }
 
+/// An effect of either kind.
+struct Effect {
+    target: u16,
+    intensity: u32,
+    duration: u16,
+    clock: &'static Clock,
+}
+
+impl Effect {
+    /// The effect of these fields, whose duration is by this clock.
+    #[inline(always)]
+    fn new(body: &[u8; 8], clock: &'static Clock) -> Effect {
+        let [t1, t0, i3, i2, i1, i0, d1, d0] = *body;
+        Effect {
+            target: u16::from_be_bytes([t1, t0]),
+            intensity: u32::from_be_bytes([i3, i2, i1, i0]),
+            duration: u16::from_be_bytes([d1, d0]),
+            clock,
+        }
+    }
+
+    #[inline(always)]
+    fn in_bounds(&self, form: u8) -> bool {
+        match form {
+            form::FIRE => self.duration >= 1,
+            form::FLASH => self.duration == 0 && self.intensity <= 1,
+            _ => self.duration == 0,
+        }
+    }
+
+    /// The chance of death or damage on a target.
+    #[inline(always)]
+    fn chance(&self, form: u8, target: &Target) -> u32 {
+        use chance::class;
+        let Effect {
+            intensity,
+            duration,
+            clock,
+            ..
+        } = *self;
+        match (form, target.class) {
+            (form::FIRE, class::PEOPLE) => {
+                chance::fire_death(clock, target.setting, intensity, duration)
+            }
+            (form::FIRE, _) if target.unjudged_in_fire => 0,
+            (form::FIRE, class) => {
+                chance::fire_damage(clock, class, target.volume_term, intensity, duration)
+            }
+            (form::FLASH, class::PEOPLE) => chance::flash_death(intensity),
+            (form::BLAST, class::PEOPLE) => chance::blast_death(target.setting, intensity),
+            (form::BLAST, class) => chance::blast_damage(class, intensity),
+            _ => 0,
+        }
+    }
+}
+
 /// Why no record was read.
 enum Stop {
     /// The piece ends before the record, whose length this is.
@@ -464,27 +520,23 @@ impl Study {
         let mut done = 0;
         let length = rest.len();
         while done < limit {
-            let Some((effect, clock, after)) = first_effect(rest) else {
+            let Some((effect, after)) = first_effect(rest) else {
                 break;
             };
-            let [t1, t0, i3, i2, i1, i0, d1, d0] = *effect;
-            let number = u16::from_be_bytes([t1, t0]);
-            let intensity = u32::from_be_bytes([i3, i2, i1, i0]);
-            let duration = u16::from_be_bytes([d1, d0]);
-            if number < next_target || !effect_in_bounds(FORM, intensity, duration) {
+            if effect.target < next_target || !effect.in_bounds(FORM) {
                 break;
             }
-            let Some(target) = targets.get_mut(usize::from(number)) else {
+            let Some(target) = targets.get_mut(usize::from(effect.target)) else {
                 break;
             };
-            let chance = effect_chance(FORM, target, clock, intensity, duration);
+            let chance = effect.chance(FORM, target);
             if FORM == form::FIRE && target.unjudged_in_fire {
                 self.unjudged += 1;
             }
             target.sum += share(self.frequency, chance);
             target.margin += margin;
             target.listed |= self.frequent && chance > Study::DOMINO_CHANCE;
-            next_target = number + 1;
+            next_target = effect.target + 1;
             rest = after;
             done += 1;
         }
@@ -501,15 +553,12 @@ impl Study {
     /// The rule for an effect that `effects` left: it has a fault.
     #[cold]
     fn refused_effect(&mut self, body: &[u8; 8]) -> Result<(), u8> {
-        let [_, _, i3, i2, i1, i0, d1, d0] = *body;
-        let intensity = u32::from_be_bytes([i3, i2, i1, i0]);
-        let duration = u16::from_be_bytes([d1, d0]);
         let form = match self.outcome {
             outcome::FLASH_FIRE => form::FLASH,
             outcome::EXPLOSION => form::BLAST,
             _ => form::FIRE,
         };
-        if effect_in_bounds(form, intensity, duration) {
+        if Effect::new(body, &Clock::SECONDS).in_bounds(form) {
             Err(number::NUMBERING)
         } else {
             Err(number::FIELD)
@@ -648,14 +697,12 @@ fn share(frequency: u64, chance: u32) -> u64 {
     frequency * u64::from(chance) / 1_000_000
 }
 
-/// The effect at the front of some bytes: its fields but the last byte, its
-/// clock, and the bytes after it. None where no whole effect stands there, or
-/// its last byte names no clock.
+/// The effect at the front of some bytes, and the bytes after it. None where no
+/// whole effect stands there, or its last byte names no clock.
 #[inline(always)]
-fn first_effect(bytes: &[u8]) -> Option<(&[u8; 8], &'static Clock, &[u8])> {
-    let (&kind, rest) = bytes.split_first()?;
-    let (body, rest) = rest.split_first_chunk()?;
-    let (last, after) = match kind {
+fn first_effect(bytes: &[u8]) -> Option<(Effect, &[u8])> {
+    let ([kind, body @ ..], rest) = bytes.split_first_chunk::<9>()?;
+    let (last, after) = match *kind {
         record::EFFECT => (0, rest),
         record::TIMED_EFFECT => {
             let (&last, after) = rest.split_first()?;
@@ -663,34 +710,7 @@ fn first_effect(bytes: &[u8]) -> Option<(&[u8; 8], &'static Clock, &[u8])> {
         }
         _ => return None,
     };
-    Some((body, Clock::named(last)?, after))
-}
-
-#[inline(always)]
-fn effect_in_bounds(form: u8, intensity: u32, duration: u16) -> bool {
-    match form {
-        form::FIRE => duration >= 1,
-        form::FLASH => duration == 0 && intensity <= 1,
-        _ => duration == 0,
-    }
-}
-
-#[inline(always)]
-fn effect_chance(form: u8, target: &Target, clock: &Clock, intensity: u32, duration: u16) -> u32 {
-    use chance::class;
-    match (form, target.class) {
-        (form::FIRE, class::PEOPLE) => {
-            chance::fire_death(clock, target.setting, intensity, duration)
-        }
-        (form::FIRE, _) if target.unjudged_in_fire => 0,
-        (form::FIRE, class) => {
-            chance::fire_damage(clock, class, target.volume_term, intensity, duration)
-        }
-        (form::FLASH, class::PEOPLE) => chance::flash_death(intensity),
-        (form::BLAST, class::PEOPLE) => chance::blast_death(target.setting, intensity),
-        (form::BLAST, class) => chance::blast_damage(class, intensity),
-        _ => 0,
-    }
+    Some((Effect::new(body, Clock::named(last)?), after))
 }
 
 /// The grade of a place of people.
