@@ -281,6 +281,7 @@ fn effects(seen: &mut Seen, bytes: &[u8], ends: &[usize]) {
     while let Some(record) = first_record(&bytes[place..]) {
         match record[0] {
             record::TARGET => targets.push(record),
+            // The effects since the last outcome are all of that outcome's.
             record::OUTCOME | record::CLOSING => {
                 seen.outcome(forms);
                 (kind, forms) = (record[1], 0);
@@ -553,8 +554,9 @@ mod tests {
         for index in 0..2_000 {
             lists.add(&count(&lists::list(3, index)), |count| count.min(1));
         }
-        assert!(lists.entries.iter().all(|&lists| lists > 4));
-        assert!(lists.cuts.iter().all(|&lists| lists > 80));
+        let Seen { entries, cuts, .. } = lists;
+        assert!(entries.iter().all(|&lists| lists > 4), "{entries:?}");
+        assert!(cuts.iter().all(|&lists| lists > 80), "{cuts:?}");
         let least = [80, 200, 60, 7, 4];
         for (group, least) in lists.groups().iter().zip(least) {
             let (heading, counts) = (group.heading, group.counts);
