@@ -6,7 +6,8 @@ use Prim.Native.Nat.{ℕ, _+_, _*_, _/_}
 use lib.IntN.{ℤ, pos, _-ℤ_}
 use Rattle.numeric.specs.Choice.{pick, ifEq, ifLt}
 use Rattle.terms.specs.Scales.{Scales, standard}
-use Rattle.terms.specs.Terms.{atmospheric, pressurised, tower, machine, pipe, people, Clock, judgedAs, unjudged, byKind}
+use Rattle.terms.specs.Terms.{atmospheric, pressurised, tower, machine, pipe, people, judgedAs, unjudged, byKind}
+use Rattle.terms.specs.declared.Clock.{Clock}
 use Rattle.terms.specs.declared.Judged.{Judged}
 use Rattle.equipment.specs.declared.BlastRow.{BlastRow}
 

@@ -9,7 +9,7 @@ use lib.Seq.{drop-cons, take-add, take-all, getD-append-add}
 use lib.Arith.{digits-lt, digits-div, digits-mod, mod-mul}
 use Rattle.numeric.specs.Choice.{ifEq}
 use Rattle.numeric.proofs.ChoiceLaws.{ne-case, eq-both}
-use Rattle.model.specs.Content.{given, described, inSeconds}
+use Rattle.model.specs.Content.{given, described, inSeconds, timed}
 use Rattle.model.specs.Format.{Record, openingRec, targetRec, leakRec, branchingRec, outcomeRec, effectRec, closingRec, bytes, encode}
 use Rattle.model.specs.Calls.{Bytes}
 use Rattle.model.specs.Verdict.{bodyLength, field, decode}
@@ -89,28 +89,35 @@ decode-encode (effectRec (inSeconds t i d)) h =
     let b = field-bytes (6 ∷ bytes 2 t) (bytes 2 d) 4 i (h .1) in
     let c = field-bytes (6 ∷ bytes 2 t ++ bytes 4 i) [] 2 d (h .2) in
     λ j. effectRec (inSeconds (a j) (b j) (c j))
+decode-encode (effectRec (timed t i d u)) h =
+    let a = field-bytes (8 ∷ []) (bytes 4 i ++ bytes 2 d ++ bytes 1 u) 2 t (h .0) in
+    let b = field-bytes (8 ∷ bytes 2 t) (bytes 2 d ++ bytes 1 u) 4 i (h .1) in
+    let c = field-bytes (8 ∷ bytes 2 t ++ bytes 4 i) (bytes 1 u) 2 d (h .2) in
+    let e = field-bytes (8 ∷ bytes 2 t ++ bytes 4 i ++ bytes 2 d) [] 1 u (h .3) in
+    λ j. effectRec (timed (a j) (b j) (c j) (e j))
 decode-encode (closingRec n s) h =
     ap₂ closingRec (field-bytes (7 ∷ []) (bytes 8 s) 4 n (h .0)) (field-bytes (7 ∷ bytes 4 n) [] 8 s (h .1))
 
--- a kind above 7 is unknown
-body-unknown : (k : ℕ) → 8 ≤ k → bodyLength k ≡ 0
+-- a kind above 8 is unknown
+body-unknown : (k : ℕ) → 9 ≤ k → bodyLength k ≡ 0
 unfolding bodyLength
 body-unknown k h =
     sym (ne-case k 1 _ _ (omega arith) (ne-case k 2 _ _ (omega arith) (ne-case k 3 _ _ (omega arith) (ne-case k 4 _ _ (omega arith)
-    (ne-case k 5 _ _ (omega arith) (ne-case k 6 _ _ (omega arith) (ne-case k 7 _ _ (omega arith) refl)))))))
+    (ne-case k 5 _ _ (omega arith) (ne-case k 6 _ _ (omega arith) (ne-case k 7 _ _ (omega arith) (ne-case k 8 _ _ (omega arith) refl))))))))
 
--- the known kinds are 1 to 7
-kind-cases : (P : ℕ → Type 0) → P 1 → P 2 → P 3 → P 4 → P 5 → P 6 → P 7 → (k : ℕ) → (bodyLength k ≡ 0 → ⊥) → P k
+-- the known kinds are 1 to 8
+kind-cases : (P : ℕ → Type 0) → P 1 → P 2 → P 3 → P 4 → P 5 → P 6 → P 7 → P 8 → (k : ℕ) → (bodyLength k ≡ 0 → ⊥) → P k
 unfolding bodyLength ifEq
-kind-cases P p1 p2 p3 p4 p5 p6 p7 zero h = absurd (h refl)
-kind-cases P p1 p2 p3 p4 p5 p6 p7 (suc zero) h = p1
-kind-cases P p1 p2 p3 p4 p5 p6 p7 (suc (suc zero)) h = p2
-kind-cases P p1 p2 p3 p4 p5 p6 p7 (suc (suc (suc zero))) h = p3
-kind-cases P p1 p2 p3 p4 p5 p6 p7 (suc (suc (suc (suc zero)))) h = p4
-kind-cases P p1 p2 p3 p4 p5 p6 p7 (suc (suc (suc (suc (suc zero))))) h = p5
-kind-cases P p1 p2 p3 p4 p5 p6 p7 (suc (suc (suc (suc (suc (suc zero)))))) h = p6
-kind-cases P p1 p2 p3 p4 p5 p6 p7 (suc (suc (suc (suc (suc (suc (suc zero))))))) h = p7
-kind-cases P p1 p2 p3 p4 p5 p6 p7 (suc (suc (suc (suc (suc (suc (suc (suc k)))))))) h = absurd (h (body-unknown (suc (suc (suc (suc (suc (suc (suc (suc k)))))))) (omega arith)))
+kind-cases P p1 p2 p3 p4 p5 p6 p7 p8 zero h = absurd (h refl)
+kind-cases P p1 p2 p3 p4 p5 p6 p7 p8 (suc zero) h = p1
+kind-cases P p1 p2 p3 p4 p5 p6 p7 p8 (suc (suc zero)) h = p2
+kind-cases P p1 p2 p3 p4 p5 p6 p7 p8 (suc (suc (suc zero))) h = p3
+kind-cases P p1 p2 p3 p4 p5 p6 p7 p8 (suc (suc (suc (suc zero)))) h = p4
+kind-cases P p1 p2 p3 p4 p5 p6 p7 p8 (suc (suc (suc (suc (suc zero))))) h = p5
+kind-cases P p1 p2 p3 p4 p5 p6 p7 p8 (suc (suc (suc (suc (suc (suc zero)))))) h = p6
+kind-cases P p1 p2 p3 p4 p5 p6 p7 p8 (suc (suc (suc (suc (suc (suc (suc zero))))))) h = p7
+kind-cases P p1 p2 p3 p4 p5 p6 p7 p8 (suc (suc (suc (suc (suc (suc (suc (suc zero)))))))) h = p8
+kind-cases P p1 p2 p3 p4 p5 p6 p7 p8 (suc (suc (suc (suc (suc (suc (suc (suc (suc k))))))))) h = absurd (h (body-unknown (suc (suc (suc (suc (suc (suc (suc (suc (suc k))))))))) (omega arith)))
 
 -- what holds of the whole records of each kind holds of every whole record
 whole-cases : (P : List ℕ → Type 0)
@@ -121,11 +128,12 @@ whole-cases : (P : List ℕ → Type 0)
     → ((b : List ℕ) → length b ≡ 3 → P (5 ∷ b))
     → ((b : List ℕ) → length b ≡ 8 → P (6 ∷ b))
     → ((b : List ℕ) → length b ≡ 12 → P (7 ∷ b))
+    → ((b : List ℕ) → length b ≡ 9 → P (8 ∷ b))
     → (l : List ℕ) → WholeBytes l → P l
 unfolding bodyLength ifEq
-whole-cases P p1 p2 p3 p4 p5 p6 p7 l w =
+whole-cases P p1 p2 p3 p4 p5 p6 p7 p8 l w =
     subst P (sym (w .same))
-    (kind-cases (λ k. (b : List ℕ) → length b ≡ bodyLength k → P (k ∷ b)) p1 p2 p3 p4 p5 p6 p7 (w .kind) (w .whole .known) (w .body) (w .whole .full))
+    (kind-cases (λ k. (b : List ℕ) → length b ≡ bodyLength k → P (k ∷ b)) p1 p2 p3 p4 p5 p6 p7 p8 (w .kind) (w .whole .known) (w .body) (w .whole .full))
 
 -- numbers read from bytes
 
@@ -189,6 +197,7 @@ encode-decode l h w =
     (λ b e h. let f = next 5 b 3 e h in all 5 b 3 e h (f 1 2 _ (omega arith) (f 0 1 _ (omega arith) refl)))
     (λ b e h. let f = next 6 b 8 e h in all 6 b 8 e h (f 6 2 _ (omega arith) (f 2 4 _ (omega arith) (f 0 2 _ (omega arith) refl))))
     (λ b e h. let f = next 7 b 12 e h in all 7 b 12 e h (f 4 8 _ (omega arith) (f 0 4 _ (omega arith) refl)))
+    (λ b e h. let f = next 8 b 9 e h in all 8 b 9 e h (f 8 1 _ (omega arith) (f 6 2 _ (omega arith) (f 2 4 _ (omega arith) (f 0 2 _ (omega arith) refl)))))
     l w h
 
 pub decode-fits : (l : List ℕ) → Bytes l → WholeBytes l → Fits (decode l)
@@ -202,6 +211,7 @@ decode-fits l h w =
     (λ b e h. (field-below (5 ∷ b) h 1 1, field-below (5 ∷ b) h 2 2))
     (λ b e h. (field-below (6 ∷ b) h 1 2, field-below (6 ∷ b) h 3 4, field-below (6 ∷ b) h 7 2))
     (λ b e h. (field-below (7 ∷ b) h 1 4, field-below (7 ∷ b) h 5 8))
+    (λ b e h. (field-below (8 ∷ b) h 1 2, field-below (8 ∷ b) h 3 4, field-below (8 ∷ b) h 7 2, field-below (8 ∷ b) h 9 1))
     l w h
 
 pub encode-bytes : (r : Record) → Bytes (encode r)
@@ -216,6 +226,7 @@ encode-bytes (leakRec n f) = (omega arith, one-more (bytes 4 n) 8 f (bytes-below
 encode-bytes (branchingRec (given p)) = (omega arith, bytes-below 4 p)
 encode-bytes (outcomeRec k n) = (omega arith, one-more (bytes 1 k) 2 n (bytes-below 1 k))
 encode-bytes (effectRec (inSeconds t i d)) = (omega arith, one-more (bytes 2 t ++ bytes 4 i) 2 d (one-more (bytes 2 t) 4 i (bytes-below 2 t)))
+encode-bytes (effectRec (timed t i d u)) = (omega arith, one-more (bytes 2 t ++ bytes 4 i ++ bytes 2 d) 1 u (one-more (bytes 2 t ++ bytes 4 i) 2 d (one-more (bytes 2 t) 4 i (bytes-below 2 t))))
 encode-bytes (closingRec n s) = (omega arith, one-more (bytes 4 n) 8 s (bytes-below 4 n))
 
 whole-bytes : (k : ℕ) (b : List ℕ) → (bodyLength k ≡ 0 → ⊥) → length b ≡ bodyLength k → WholeBytes (k ∷ b)
@@ -229,6 +240,7 @@ encode-whole (leakRec n f) = whole-bytes 3 _ (omega arith) refl
 encode-whole (branchingRec (given p)) = whole-bytes 4 _ (omega arith) refl
 encode-whole (outcomeRec k n) = whole-bytes 5 _ (omega arith) refl
 encode-whole (effectRec (inSeconds t i d)) = whole-bytes 6 _ (omega arith) refl
+encode-whole (effectRec (timed t i d u)) = whole-bytes 8 _ (omega arith) refl
 encode-whole (closingRec n s) = whole-bytes 7 _ (omega arith) refl
 
 -- a field is read from its own bytes alone
@@ -261,6 +273,12 @@ decode-prefix l q w =
     let d = at 6 b 7 2 (omega arith) in
     λ j. effectRec (inSeconds (t j) (u j) (d j)))
     (λ b e. ap₂ closingRec (at 7 b 1 4 (omega arith)) (at 7 b 5 8 (omega arith)))
+    (λ b e.
+    let t = at 8 b 1 2 (omega arith) in
+    let u = at 8 b 3 4 (omega arith) in
+    let d = at 8 b 7 2 (omega arith) in
+    let w = at 8 b 9 1 (omega arith) in
+    λ j. effectRec (timed (t j) (u j) (d j) (w j)))
     l w
   where
     at : (k : ℕ) (b : List ℕ) (i n : ℕ) → i + n ≤ length (k ∷ b) → field (k ∷ (b ++ q)) i n ≡ field (k ∷ b) i n
@@ -276,7 +294,7 @@ body-most k =
     (eq-both Few k 2 8 _ (omega arith)
     (eq-both Few k 3 12 _ (omega arith)
     (eq-both Few k 4 4 _ (omega arith)
-    (eq-both Few k 5 3 _ (omega arith) (eq-both Few k 6 8 _ (omega arith) (eq-both Few k 7 12 0 (omega arith) (omega arith)))))))
+    (eq-both Few k 5 3 _ (omega arith) (eq-both Few k 6 8 _ (omega arith) (eq-both Few k 7 12 _ (omega arith) (eq-both Few k 8 9 0 (omega arith) (omega arith))))))))
   where
     Few : ℕ → Type 0
     Few n = n ≤ 12

@@ -8,10 +8,10 @@ use Rattle.numeric.specs.Share.{certain}
 use Rattle.numeric.proofs.ChoiceLaws.{eq-case, ne-case, le-case, gt-case, lt-case, ge-case, eq-elim, le-elim, lt-elim}
 use Rattle.terms.specs.Terms.{noEffect, fireball, flashFire, people}
 use Rattle.model.specs.Bounds.{mostTargets, mostScenarios, mostRecords, mostAbove, mostVolume, leastFrequency, mostFrequency, mostEffects, mostKind, mostClass, mostSetting}
-use Rattle.model.specs.Content.{Target, facts}
+use Rattle.model.specs.Content.{Target, facts, Effect, inSeconds, timed}
 use Rattle.model.specs.Format.{Record}
-use Rattle.model.specs.Valid.{ValidTarget}
-use Rattle.model.specs.Faults.{Context, orderFault, targetFault, leakFault, branchingFault, outcomeFault, namingFault, effectFault, closingFault, ownFault, fault}
+use Rattle.model.specs.Valid.{ValidTarget, ValidUnit}
+use Rattle.model.specs.Faults.{Context, orderFault, targetFault, leakFault, branchingFault, outcomeFault, namingFault, effectFault, unitFault, closingFault, ownFault, fault}
 use Rattle.model.specs.MachineTheorems.{Allowed}
 
 -- where the order allows a record of kind k
@@ -222,6 +222,17 @@ effect-free targets kind next t i d f = sym (go (decLe kind fireball))
     go (no h) =
         let g : fireball < kind = omega arith in
         gt-case kind fireball _ _ g (eq-case d 0 _ _ (f .other g) (flash (ℕ-discrete kind flashFire)))
+
+-- an effect whose unit, if it has one, is right
+pub unit-facts : (e : Effect) (n : ℕ) → unitFault e n ≡ 0 → ValidUnit e × (n ≡ 0)
+unfolding unitFault
+unit-facts (inSeconds t i d) n h = (tt, h)
+unit-facts (timed t i d u) n h = lt-elim h (λ w q. absurd (omega arith)) (λ w q. (w, q))
+
+pub unit-free : (e : Effect) (n : ℕ) → ValidUnit e → n ≡ 0 → unitFault e n ≡ 0
+unfolding unitFault
+unit-free (inSeconds t i d) n w h = h
+unit-free (timed t i d u) n w h = sym (ge-case 1 u _ _ w (sym h))
 
 -- a closing record without fault
 pub closing-facts : (records leaks n s : ℕ) → closingFault records leaks n s ≡ 0 → (n ≡ records + 1) × (s ≡ leaks)

@@ -11,18 +11,18 @@ use Rattle.log2.specs.Logarithm.{logarithm}
 use Rattle.probit.specs.Table.{probitTable}
 use Rattle.probit.specs.Chance.{greatestChance, chanceOf}
 use Rattle.volumes.specs.Root.{rootOf}
-use Rattle.terms.specs.Terms.{byKind}
+use Rattle.terms.specs.Terms.{byKind, clockOf}
 use Rattle.people.specs.Death.{fireProbitBy, settingShare, fireDeathBy, flashDeath, blastDeath, deathBy}
 use Rattle.equipment.specs.Damage.{blastRowOf, blastProbitBy, blastDamageBy, heatProbitBy, heatDamageBy, sphereProbitBy, sphereDamageBy, fireChanceBy, fireJudged, fireDamageBy, damageBy}
 use Rattle.vulnerability.specs.Effect.{effectBy}
 use Rattle.vulnerability.specs.Domino.{listedBy}
 use Rattle.model.specs.Sums.{sumOver, some, joinOver, numbersBelow}
-use Rattle.model.specs.Content.{inSeconds, Tree, outcome}
+use Rattle.model.specs.Content.{Effect, inSeconds, timed, Tree, outcome}
 use Rattle.model.specs.Format.{bytes, encode, targetRecords, effectRecords, treeRecords, scenarioRecords, leaksOf, openRecords, countOf, recordsOf, bytesOf}
 use Rattle.model.specs.Valid.{ValidEffect, ValidTree, Valid}
 use Rattle.model.specs.Outcomes.{treeOutcomes, scenarioOutcomes, outcomesOf}
 use Rattle.model.specs.Report.{judgement, kindTotal, overEffects, unjudgedOf, sumAt, marginAt, exactAt, gradeOf, listedAt, dominoOf}
-use Rattle.model.specs.Instances.{shownOf, specimen, SpecimenHolds, stem, deep, DeepHolds, tankFarm, TankFarmHolds}
+use Rattle.model.specs.Instances.{shownOf, specimen, SpecimenHolds, stem, deep, DeepHolds, tankFarm, TankFarmHolds, fireballs, FireballsHold}
 
 -- an outcome without effects is valid anywhere
 nothing-valid : (targets above : ℕ) → ValidTree targets above (outcome 0 [])
@@ -122,6 +122,37 @@ tank-farm-valid =
       fewRecords = omega arith;
     }
 
+-- an effect of a fireball on one of the seven targets
+fireball-valid : (t q d u : ℕ) → t < 7 → q < 2 ^ 32 → 1 ≤ d → d < 2 ^ 16 → u ≤ 1 → ValidEffect 3 7 (timed t q d u)
+fireball-valid t q d u a b c e f = omega (arith, a, b, c, e, f)
+
+fireballs-tree-valid :
+    ValidTree 7 0
+    (outcome 3
+    (inSeconds 0 12500 100 ∷ timed 1 12500 100 0 ∷ timed 2 12500 100 1 ∷ timed 3 12500 200 1 ∷ timed 4 15001 6001 1 ∷ timed 5 60000 6000 1 ∷ timed 6 60000 6001 1 ∷ []))
+unfolding ValidTree
+fireballs-tree-valid =
+    record {
+      known = omega arith;
+      few = omega arith;
+      none = omega arith;
+      effects = (omega arith, (fireball-valid 1 12500 100 0 (omega arith) (omega arith) (omega arith) (omega arith) (omega arith), (fireball-valid 2 12500 100 1 (omega arith) (omega arith) (omega arith) (omega arith) (omega arith), (fireball-valid 3 12500 200 1 (omega arith) (omega arith) (omega arith) (omega arith) (omega arith), (fireball-valid 4 15001 6001 1 (omega arith) (omega arith) (omega arith) (omega arith) (omega arith), (fireball-valid 5 60000 6000 1 (omega arith) (omega arith) (omega arith) (omega arith) (omega arith), (fireball-valid 6 60000 6001 1 (omega arith) (omega arith) (omega arith) (omega arith) (omega arith), tt)))))));
+      rising = omega arith;
+    }
+
+fireballs-valid : Valid fireballs
+unfolding fireballs countOf openRecords targetRecords joinOver scenarioRecords treeRecords effectRecords
+fireballs-valid =
+    record {
+      number = omega arith;
+      fewTargets = omega arith;
+      targets = omega arith;
+      fewScenarios = omega arith;
+      rising = omega arith;
+      scenarios = (record { number = omega arith; least = omega arith; most = omega arith; tree = fireballs-tree-valid }, tt);
+      fewRecords = omega arith;
+    }
+
 pub specimen-holds : SpecimenHolds
 unfolding ifEq ifLe ifLt shareOf splitOf greatest logarithm probitTable greatestChance chanceOf byKind fireProbitBy settingShare fireDeathBy flashDeath blastDeath deathBy blastRowOf blastProbitBy blastDamageBy heatProbitBy heatDamageBy sphereProbitBy sphereDamageBy fireChanceBy fireJudged fireDamageBy damageBy effectBy listedBy sumOver some joinOver numbersBelow bytes encode targetRecords effectRecords treeRecords scenarioRecords leaksOf openRecords countOf recordsOf bytesOf treeOutcomes scenarioOutcomes outcomesOf judgement kindTotal overEffects unjudgedOf sumAt marginAt exactAt gradeOf listedAt dominoOf shownOf specimen
 specimen-holds = record { valid = specimen-valid; bytes = refl; shown = refl }
@@ -133,3 +164,7 @@ deep-holds = record { valid = deep-valid; bytes = refl; shown = refl }
 pub tank-farm-holds : TankFarmHolds
 unfolding ifEq ifLe ifLt shareOf splitOf greatest logarithm probitTable greatestChance chanceOf rootOf byKind fireProbitBy settingShare fireDeathBy flashDeath blastDeath deathBy blastRowOf blastProbitBy blastDamageBy heatProbitBy heatDamageBy sphereProbitBy sphereDamageBy fireChanceBy fireJudged fireDamageBy damageBy effectBy listedBy sumOver some joinOver numbersBelow bytes encode targetRecords effectRecords treeRecords scenarioRecords leaksOf openRecords countOf recordsOf bytesOf treeOutcomes scenarioOutcomes outcomesOf judgement kindTotal overEffects unjudgedOf sumAt marginAt exactAt gradeOf listedAt dominoOf shownOf tankFarm
 tank-farm-holds = record { valid = tank-farm-valid; bytes = refl; shown = refl }
+
+pub fireballs-hold : FireballsHold
+unfolding ifEq ifLe ifLt shareOf splitOf greatest logarithm probitTable greatestChance chanceOf rootOf clockOf byKind fireProbitBy settingShare fireDeathBy flashDeath blastDeath deathBy blastRowOf blastProbitBy blastDamageBy heatProbitBy heatDamageBy sphereProbitBy sphereDamageBy fireChanceBy fireJudged fireDamageBy damageBy effectBy listedBy sumOver some joinOver numbersBelow bytes encode targetRecords effectRecords treeRecords scenarioRecords leaksOf openRecords countOf recordsOf bytesOf treeOutcomes scenarioOutcomes outcomesOf judgement kindTotal overEffects unjudgedOf sumAt marginAt exactAt gradeOf listedAt dominoOf shownOf fireballs
+fireballs-hold = record { valid = fireballs-valid; bytes = refl; shown = refl }

@@ -9,13 +9,13 @@ use lib.ListN.{length}
 use Rattle.state.specs.declared.Counts.{Counts}
 use Rattle.model.specs.Bounds.{mostTargets, mostScenarios}
 use Rattle.model.specs.Sums.{joinOver}
-use Rattle.model.specs.Content.{given, chance, Target, described, Effect, inSeconds, targetOf, intensity, duration, Tree, outcome, branching, Scenario}
-use Rattle.model.specs.Format.{Record, targetRec, targetRecords, effectRecords, treeRecords, scenarioRecords}
+use Rattle.model.specs.Content.{given, chance, Target, described, Effect, inSeconds, timed, targetOf, intensity, duration, Tree, outcome, branching, Scenario}
+use Rattle.model.specs.Format.{Record, targetRec, effectRec, targetRecords, effectRecords, treeRecords, scenarioRecords}
 use Rattle.model.specs.Valid.{Each, RiseFrom, ValidTarget, ValidEffect, ValidTree, ValidScenario}
 use Rattle.model.specs.Faults.{context, declaring, leaking, ownFault, contextAfter}
 use Rattle.model.specs.MachineTheorems.{Numbered}
 use Rattle.model.proofs.Accepts.{Fits}
-use Rattle.model.proofs.FaultLaws.{target-facts, target-free, LeakTaken, leak-facts, leak-free, branching-facts, branching-free, outcome-facts, outcome-free, effect-facts, effect-free}
+use Rattle.model.proofs.FaultLaws.{target-facts, target-free, LeakTaken, leak-facts, leak-free, branching-facts, branching-free, outcome-facts, outcome-free, effect-facts, effect-free, unit-facts, unit-free}
 use Rattle.model.proofs.ContextLaws.{advanced, kindAtEnd, nextAtEnd, numberedRecord, after-tree}
 use Rattle.model.proofs.ListLaws.{each-append, each-parts}
 use Rattle.model.proofs.AcceptLaws.{AllOwn, own-append, own-parts}
@@ -25,20 +25,28 @@ pub effects-own : (es : List Effect) (k : Counts) (trees : List ℕ) (left kind 
 unfolding AllOwn ownFault contextAfter effectRecords
 effects-own [] k trees left kind next v r = tt
 effects-own (e ∷ es) k trees left kind next v r = (
-  effect-free (k .targets) kind next (targetOf e) (intensity e) (duration e)
-      (record { fire = v .0 .fire; other = v .0 .other; flash = v .0 .flash; rising = r .0; declared = v .0 .declared }),
+  unit-free e _ (v .0 .unit)
+      (effect-free (k .targets) kind next (targetOf e) (intensity e) (duration e)
+      (record { fire = v .0 .fire; other = v .0 .other; flash = v .0 .flash; rising = r .0; declared = v .0 .declared })),
   effects-own es (advanced k 1) trees (left - 1) kind (targetOf e + 1) (v .1) (rw (add-one (targetOf e)) (r .1)),
 )
+
+-- the widths of an effect's fields
+effect-widths : (e : Effect) → Fits (effectRec e) → (intensity e < 2 ^ 32) × (duration e < 2 ^ 16)
+unfolding Fits
+effect-widths (inSeconds t i d) f = (f .1, f .2)
+effect-widths (timed t i d u) f = (f .1, f .2)
 
 pub effects-valid : (es : List Effect) (k : Counts) (trees : List ℕ) (left kind next : ℕ) → AllOwn (context k trees left kind next) (effectRecords es) → Each Fits (effectRecords es)
     → Each (ValidEffect kind (k .targets)) es × RiseFrom targetOf next es
 unfolding AllOwn ownFault contextAfter effectRecords Fits
 effects-valid [] k trees left kind next o f = (tt, tt)
-effects-valid (inSeconds t i d ∷ es) k trees left kind next o f =
-    let h = effect-facts (k .targets) kind next t i d (o .0) in
-    let w = effects-valid es (advanced k 1) trees (left - 1) kind (t + 1) (o .1) (f .1) in (
-      (record { declared = h .declared; fits = (f .0 .1, f .0 .2); fire = h .fire; other = h .other; flash = h .flash }, w .0),
-      (h .rising, rw (add-one t) at (w .1)),
+effects-valid (e ∷ es) k trees left kind next o f =
+    let z = unit-facts e _ (o .0) in
+    let h = effect-facts (k .targets) kind next (targetOf e) (intensity e) (duration e) (z .1) in
+    let w = effects-valid es (advanced k 1) trees (left - 1) kind (targetOf e + 1) (o .1) (f .1) in (
+      (record { declared = h .declared; fits = effect-widths e (f .0); fire = h .fire; other = h .other; flash = h .flash; unit = z .0 }, w .0),
+      (h .rising, rw (add-one (targetOf e)) at (w .1)),
     )
 
 pub effects-fit : (es : List Effect) (kind targets : ℕ) → targets ≤ mostTargets → Each (ValidEffect kind targets) es → Each Fits (effectRecords es)
@@ -47,6 +55,10 @@ effects-fit [] kind targets h v = tt
 effects-fit (inSeconds t i d ∷ es) kind targets h v =
     let l = v .0 .declared in
     ((omega arith, v .0 .fits .0, v .0 .fits .1), effects-fit es kind targets h (v .1))
+effects-fit (timed t i d u ∷ es) kind targets h v =
+    let l = v .0 .declared in
+    let n = v .0 .unit in
+    ((omega arith, v .0 .fits .0, v .0 .fits .1, omega arith), effects-fit es kind targets h (v .1))
 
 pub tree-own : (t : Tree) (k : Counts) (above : ℕ) (rest : List ℕ) (kind next : ℕ) → ValidTree (k .targets) above t
     → AllOwn (context k (above ∷ rest) 0 kind next) (treeRecords t)

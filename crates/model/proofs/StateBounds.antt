@@ -21,7 +21,7 @@ use Rattle.model.specs.Machine.{State, upTo, most32, most64, store, take
 use Rattle.model.proofs.OutcomeLaws.{split-total}
 use Rattle.model.proofs.Totals.{one-kind}
 use Rattle.model.proofs.StackLaws.{stored-length, stored-here, stored-other, frequency-packed, top-at}
-use Rattle.model.proofs.FaultLaws.{fault-facts, order-facts, leak-facts, branching-facts, outcome-facts, effect-facts}
+use Rattle.model.proofs.FaultLaws.{fault-facts, order-facts, leak-facts, branching-facts, outcome-facts, effect-facts, unit-facts}
 use Rattle.model.proofs.ReadLaws.{partial, afterRecord}
 use Rattle.model.proofs.Follows.{pile, Follows, aboves, aboves-length, pile-length, height-is, placed-few, next-tree, leak-pile, branch-pile}
 
@@ -237,7 +237,7 @@ unfolding accepted ownFault
 bounded-effect s x l e w k h f =
     let z = fault-facts x (effectRec e) f in
     let c = order-facts _ _ _ _ _ (z .order) .effect refl in
-    let i = effect-facts _ _ _ _ _ _ (z .own) in
+    let i = effect-facts _ _ _ _ _ _ (unit-facts e _ (z .own) .1) in
     let t = w .targets in
     effect-state s x l e _ k h (c .0) (rw (w .left) (c .1)) (rw (w .next) (i .rising)) (omega (arith, i .declared))
 

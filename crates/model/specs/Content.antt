@@ -1,7 +1,8 @@
 -- To be believed. The content of a study, free of bytes: 01, "Records". Assumes nothing.
 use mathlib.Core.List.{List}
 use Prim.Native.Nat.{ℕ}
-use Rattle.terms.specs.Terms.{Clock, seconds}
+use Rattle.terms.specs.Terms.{seconds, clockOf}
+use Rattle.terms.specs.declared.Clock.{Clock}
 use Rattle.terms.specs.declared.Target.{Target as Facts}
 
 -- a branching, with the chance of its first branch in millionths
@@ -22,18 +23,25 @@ facts (described f) = f
 -- an effect: target number, intensity, duration
 pub data Effect : Type 0 where
   inSeconds : ℕ → ℕ → ℕ → Effect
+  -- 02, request P6: and the unit of the duration
+  timed : ℕ → ℕ → ℕ → ℕ → Effect
 
 abbrev pub targetOf : Effect → ℕ
 targetOf (inSeconds t i d) = t
+targetOf (timed t i d u) = t
 
 abbrev pub intensity : Effect → ℕ
 intensity (inSeconds t i d) = i
+intensity (timed t i d u) = i
 
 abbrev pub duration : Effect → ℕ
 duration (inSeconds t i d) = d
+duration (timed t i d u) = d
 
+-- how its duration is counted
 abbrev pub clock : Effect → Clock
 clock (inSeconds t i d) = seconds
+clock (timed t i d u) = clockOf u
 
 -- 01, "Order": a tree is an outcome with its effects, or a branching with the tree of its first branch and that of its second
 pub data Tree : Type 0 where

@@ -10,16 +10,17 @@ use lib.ListN.{length, replicate}
 use Rattle.numeric.specs.Choice.{pick}
 use Rattle.probit.specs.Table.{probits}
 use Rattle.probit.specs.Chance.{chanceOf}
-use Rattle.terms.specs.Terms.{explosion, seconds}
+use Rattle.terms.specs.Terms.{explosion, seconds, clockOf}
 use Rattle.terms.specs.declared.Judged.{Judged}
 use Rattle.terms.specs.declared.Target.{Target as Facts}
 use Rattle.terms.specs.Scales.{Scales}
+use Rattle.people.specs.Death.{fireProbit, deathOf}
 use Rattle.equipment.specs.Damage.{blastRowOf, blastProbit, heatProbit, sphereProbit, blastDamageBy, fireChanceBy, damageOf}
 use Rattle.vulnerability.specs.Effect.{effectOn}
 use Rattle.vulnerability.specs.Domino.{listedBy}
 use Rattle.vulnerability.specs.Figures.{and, same}
 use Rattle.model.specs.Sums.{sumOver, joinOver}
-use Rattle.model.specs.Content.{given, described, inSeconds}
+use Rattle.model.specs.Content.{given, described, inSeconds, timed}
 use Rattle.model.specs.Format.{Record, openingRec, targetRec, leakRec, branchingRec, outcomeRec, effectRec, closingRec, encode}
 use Rattle.model.specs.Faults.{Context, context, fault}
 use Rattle.model.specs.Report.{gradeOf}
@@ -50,6 +51,12 @@ pub data Edge : Type 0 where
   deaths : ℕ → ℕ → ℕ → ℕ → ℕ → Edge
   -- outcome kind, class, volume, intensity, duration; chance of damage, and whether it is judged
   harms : ℕ → ℕ → ℕ → ℕ → ℕ → ℕ → Bool → Edge
+  -- unit, heat, duration; Y of a fire for people
+  timedY : ℕ → ℕ → ℕ → ℤ → Edge
+  -- unit, heat, duration; chance of death in a pool fire
+  timedDeaths : ℕ → ℕ → ℕ → ℕ → Edge
+  -- unit, class, volume, heat, duration; chance of damage in a pool fire
+  timedFires : ℕ → ℕ → ℕ → ℕ → ℕ → ℕ → Edge
   -- chance, leak; whether the equipment is on the domino list
   listings : ℕ → ℕ → Bool → Edge
   -- what is known before a record, the record; its fault
@@ -100,6 +107,9 @@ stands (page n total) = and (eqb (length probits) n) (eqb (sumOver (λ y. y) pro
 stands (rises y below from) = and (eqb (chanceOf (pos (y * 10000 - 1))) below) (eqb (chanceOf (pos (y * 10000))) from)
 stands (deaths kind setting i d c) = sameJudged (effectOn seconds (facts 0 setting 0) kind i d) (record { chance = c; judged = true })
 stands (harms kind class v i d c j) = sameJudged (effectOn seconds (facts class 0 v) kind i d) (record { chance = c; judged = j })
+stands (timedY u q d y) = sameZ (fireProbit (clockOf u .constant) q d) y
+stands (timedDeaths u q d c) = eqb (deathOf (clockOf u) 1 0 q d .chance) c
+stands (timedFires u class v q d c) = eqb (damageOf (clockOf u) 1 class v q d .chance) c
 stands (listings c leak b) = same (listedBy c leak) b
 stands (faults x r n) = eqb (fault x r) n
 stands (replies before call l) = sameList (numbersOf (answer before call)) l
@@ -125,6 +135,9 @@ place n class setting volume = targetRec n (described (facts class setting volum
 
 abbrev pub effect : ℕ → ℕ → ℕ → Record
 effect t i d = effectRec (inSeconds t i d)
+
+abbrev pub timedEffect : ℕ → ℕ → ℕ → ℕ → Record
+timedEffect t i d u = effectRec (timed t i d u)
 
 -- the bytes of some records after the opening of study 7
 abbrev pub sent : List Record → List ℕ
@@ -171,7 +184,7 @@ damages =
     []
 
 -- 02, request P1: every number of the probit, of which the first two are close to where the quotient grows by one; a volume on each side of a step of K; 600 s;
--- volumes 0 and 1, 10,000 and 10,001, in weak and short fires too. Where a rule goes by its probit: guards 40,000 W/m² and class 1's 5,170 Pa.
+-- volumes 0 and 1, 10,000 and 10,001, in weak and short fires too. Where a rule goes by its probit: guards 40,000 W/m² and class 1's 5,170 Pa. Request P6: 6000 tenths.
 unfoldable pub spheres : List Edge
 spheres =
     sphereY 63000 1 (pos 3448064) ∷ sphereY 72000 1 (pos 3680122) ∷ sphereY 63000 10000 (negsuc 2139091) ∷
@@ -179,6 +192,18 @@ spheres =
     fires 2 1 0 1 0 true ∷ fires 2 0 0 1 0 false ∷ fires 2 0 60000 601 0 false ∷ fires 2 10000 1000000 601 10000 true ∷ fires 2 10001 1000000 601 0 false ∷ fires 2 10001 0 1 0 false ∷
     fireLines 2 1 40000 601 0 ∷ fireLines 2 1 40001 601 1 ∷ fireLines 2 1 40001 600 0 ∷ fireLines 1 1 15000 601 0 ∷ fireLines 1 1 15001 601 1 ∷
     blastLines 1 5169 0 ∷ blastLines 1 5170 1 ∷
+    timedFires 1 2 1 60000 6000 0 ∷ timedFires 1 2 1 60000 6001 50000 ∷
+    []
+
+-- 02, request P6: guards both clocks and the units 0 and 1. By each clock Y at one duration, a heat whose chance the longest duration decides and one for which a longer
+-- duration changes nothing, and both sides of the limit on an atmospheric vessel and a pipe.
+unfoldable pub timings : List Edge
+timings =
+    timedY 0 12500 20 (pos 3485194) ∷ timedY 1 12500 200 (pos 3482325) ∷
+    timedDeaths 0 12500 19 40000 ∷ timedDeaths 0 12500 20 60000 ∷ timedDeaths 0 12500 21 60000 ∷
+    timedDeaths 1 9875 199 0 ∷ timedDeaths 1 9875 200 10000 ∷ timedDeaths 1 9822 200 0 ∷ timedDeaths 1 9822 201 0 ∷ timedDeaths 1 35000 200 1000000 ∷
+    timedFires 0 1 100000 15001 600 0 ∷ timedFires 0 1 100000 15001 601 440000 ∷ timedFires 1 1 100000 15001 6000 0 ∷ timedFires 1 1 100000 15001 6001 440000 ∷
+    timedFires 1 5 100000 15001 6000 0 ∷ timedFires 1 5 100000 15001 6001 440000 ∷
     []
 
 -- Grades, and the faults of records: guards each power of ten, each bound, the numbers 2 to 6 and their order, and the closing count.
@@ -210,6 +235,11 @@ edges =
     faults (beforeEffect 2 4 0) (effect 1 1 0) 0 ∷ faults (beforeEffect 2 4 0) (effect 1 2 0) 3 ∷ faults (beforeEffect 2 4 0) (effect 1 1 1) 3 ∷
     faults (beforeEffect 2 5 0) (effect 1 2 0) 0 ∷ faults (beforeEffect 2 5 0) (effect 1 2 1) 3 ∷
     faults (beforeEffect 2 1 0) (effect 2 0 1) 4 ∷ faults (beforeEffect 2 1 1) (effect 0 0 1) 4 ∷ faults (beforeEffect 2 1 1) (effect 1 0 1) 0 ∷ faults (beforeEffect 2 1 1) (effect 0 0 0) 3 ∷
+    -- their unit, after the order and before the target
+    faults (beforeEffect 2 3 0) (timedEffect 1 0 1 0) 0 ∷ faults (beforeEffect 2 3 0) (timedEffect 1 0 1 1) 0 ∷ faults (beforeEffect 2 3 0) (timedEffect 1 0 1 2) 3 ∷
+    faults (beforeEffect 2 3 0) (timedEffect 1 0 0 1) 3 ∷ faults (beforeEffect 2 4 0) (timedEffect 1 1 0 0) 0 ∷ faults (beforeEffect 2 4 0) (timedEffect 1 1 0 1) 0 ∷
+    faults (beforeEffect 2 5 0) (timedEffect 1 2 0 0) 0 ∷ faults (beforeEffect 2 5 0) (timedEffect 1 2 0 1) 0 ∷ faults (beforeEffect 2 5 0) (timedEffect 1 2 1 1) 3 ∷
+    faults (beforeEffect 2 3 0) (timedEffect 2 0 1 1) 4 ∷ faults (beforeEffect 2 3 0) (timedEffect 2 0 1 2) 3 ∷ faults (beforeTree 0) (timedEffect 1 0 1 2) 2 ∷
     -- the closing record: count and sum
     faults (between 12 1 1 1 5) (closingRec 13 5) 0 ∷ faults (between 12 1 1 1 5) (closingRec 12 5) 6 ∷ faults (between 12 1 1 1 5) (closingRec 14 5) 6 ∷
     faults (between 12 1 1 1 5) (closingRec 13 4) 6 ∷ faults (between 12 1 1 1 5) (closingRec 13 6) 6 ∷
@@ -239,9 +269,9 @@ calls =
     replies [] (domino (5 ∷ [])) (8 ∷ 0 ∷ 0 ∷ 5 ∷ []) ∷
     replies (1 ∷ []) (piece (0 ∷ 0 ∷ 0 ∷ [])) (0 ∷ 4 ∷ []) ∷ replies (1 ∷ 0 ∷ 0 ∷ 0 ∷ []) totals (refusal 8 4 11) ∷
     -- 1 at the kind byte, and kept
-    replies (sent []) (piece (0 ∷ [])) (1 ∷ 5 ∷ []) ∷ replies (sent []) (piece (8 ∷ [])) (1 ∷ 5 ∷ []) ∷ replies (sent [] ++ (8 ∷ [])) (piece []) (1 ∷ 5 ∷ []) ∷
-    replies (sent [] ++ (8 ∷ [])) totals (refusal 1 5 11) ∷ replies (sent [] ++ (8 ∷ [])) (target 0) (refusal 1 5 5) ∷
-    replies (sent [] ++ (8 ∷ [])) (domino []) (refusal 1 5 1) ∷
+    replies (sent []) (piece (0 ∷ [])) (1 ∷ 5 ∷ []) ∷ replies (sent []) (piece (9 ∷ [])) (1 ∷ 5 ∷ []) ∷ replies (sent [] ++ (9 ∷ [])) (piece []) (1 ∷ 5 ∷ []) ∷
+    replies (sent [] ++ (9 ∷ [])) totals (refusal 1 5 11) ∷ replies (sent [] ++ (9 ∷ [])) (target 0) (refusal 1 5 5) ∷
+    replies (sent [] ++ (9 ∷ [])) (domino []) (refusal 1 5 1) ∷
     -- 2 to 6 at the record's first byte: a second opening; 9 branchings, one upon the other; frequency 0; a target named twice, a scenario's number twice; count
     replies (sent []) (piece (1 ∷ 0 ∷ 0 ∷ 0 ∷ 7 ∷ [])) (2 ∷ 5 ∷ []) ∷
     replies [] (piece (sent (leakRec 1 1 ∷ replicate 8 (branchingRec (given 0))))) (0 ∷ 58 ∷ []) ∷
@@ -250,6 +280,11 @@ calls =
     replies [] (piece (sent (place 0 0 0 0 ∷ leakRec 1 1 ∷ outcomeRec 4 2 ∷ effect 0 1 0 ∷ effect 0 1 0 ∷ []))) (4 ∷ 40 ∷ []) ∷
     replies [] (piece (sent (leakRec 1 1 ∷ outcomeRec 0 0 ∷ leakRec 1 1 ∷ []))) (4 ∷ 22 ∷ []) ∷
     replies [] (piece (sent (closingRec 3 0 ∷ []))) (6 ∷ 5 ∷ []) ∷
+    -- effects of both kinds in one outcome, read to the last byte, which is refused alone
+    replies [] (piece (sent (place 0 0 0 0 ∷ place 1 0 0 0 ∷ leakRec 1 1 ∷ outcomeRec 3 2 ∷ effect 0 0 1 ∷ timedEffect 1 0 1 1 ∷ []))) (0 ∷ 59 ∷ []) ∷
+    replies (sent (place 0 0 0 0 ∷ leakRec 1 1 ∷ outcomeRec 3 1 ∷ []) ++ (8 ∷ 0 ∷ 0 ∷ 0 ∷ 0 ∷ 0 ∷ 0 ∷ 0 ∷ 1 ∷ [])) (piece []) (0 ∷ 40 ∷ []) ∷
+    replies (sent (place 0 0 0 0 ∷ leakRec 1 1 ∷ outcomeRec 3 1 ∷ []) ++ (8 ∷ 0 ∷ 0 ∷ 0 ∷ 0 ∷ 0 ∷ 0 ∷ 0 ∷ 1 ∷ [])) (piece (2 ∷ [])) (3 ∷ 31 ∷ []) ∷
+    replies (sent (place 0 0 0 0 ∷ leakRec 1 1 ∷ outcomeRec 3 1 ∷ []) ++ (8 ∷ 0 ∷ 0 ∷ 0 ∷ 0 ∷ 0 ∷ 0 ∷ 0 ∷ 1 ∷ [])) (piece (1 ∷ [])) (0 ∷ 41 ∷ []) ∷
     -- opening and closing alone: 0, 9 and 7
     replies [] (piece (sent (closingRec 2 0 ∷ []))) (0 ∷ 18 ∷ []) ∷ replies (sent (closingRec 2 0 ∷ [])) totals (0 ∷ 18 ∷ 7 ∷ 2 ∷ replicate 9 0) ∷
     replies (sent (closingRec 2 0 ∷ [])) (target 0) (refusal 9 18 5) ∷ replies (sent (closingRec 2 0 ∷ [])) (domino []) (refusal 0 18 1) ∷
@@ -268,7 +303,7 @@ calls =
     []
 
 abbrev pub EdgesStand : Type 0
-EdgesStand = (allStand chances ≡ true) × (allStand fatalities ≡ true) × (allStand damages ≡ true) × (allStand spheres ≡ true) × (allStand edges ≡ true) × (allStand calls ≡ true)
+EdgesStand = (allStand chances ≡ true) × (allStand fatalities ≡ true) × (allStand damages ≡ true) × (allStand spheres ≡ true) × (allStand timings ≡ true) × (allStand edges ≡ true) × (allStand calls ≡ true)
 
 -- A margin of 1 is too little one unit off: the specimen's exact sum at target 0 is 600,000 units, so 10^54 parts and no other number make a unit of it.
 abbrev pub MarginIsStrict : Type 0

@@ -4,11 +4,11 @@ use Prim.Native.Nat.{ℕ, suc, _+_, _-_}
 use lib.ListN.{length, getD, drop}
 use Rattle.numeric.specs.Choice.{ifEq, ifLe, ifLt}
 use Rattle.numeric.specs.Share.{certain}
-use Rattle.terms.specs.Terms.{noEffect, fireball, flashFire, people, individual}
+use Rattle.terms.specs.Terms.{noEffect, fireball, flashFire, people, individual, tenthsUnit}
 use Rattle.terms.specs.declared.Target.{Target as Facts}
 use Rattle.state.specs.declared.Counts.{Counts}
 use Rattle.model.specs.Bounds.{mostTargets, mostScenarios, mostRecords, mostAbove, mostVolume, leastFrequency, mostFrequency, mostEffects, mostKind, mostClass, mostSetting}
-use Rattle.model.specs.Content.{Branching, chance, Target, facts, Effect, targetOf, intensity, duration}
+use Rattle.model.specs.Content.{Branching, chance, Target, facts, Effect, inSeconds, timed, targetOf, intensity, duration}
 use Rattle.model.specs.Format.{openingKind, targetKind, leakKind, branchingKind, outcomeKind, effectKind, closingKind, Record, openingRec, targetRec, leakRec, branchingRec, outcomeRec, effectRec, closingRec}
 
 -- the place of a record in 01's order, by the number of its kind in 01's table
@@ -68,6 +68,11 @@ effectFault targets kind next t i d =
     (ifEq kind flashFire (ifLe i 1 (namingFault targets next t) 3) (namingFault targets next t))
     3)
 
+-- 02, request P6: 3 for a last byte that is no unit, before 4
+unfoldable pub unitFault : Effect → ℕ → ℕ
+unitFault (inSeconds t i d) n = n
+unitFault (timed t i d u) n = ifLt tenthsUnit u 3 n
+
 -- 6, closing count or sum differs; the count has the closing record in it
 unfoldable pub closingFault : ℕ → ℕ → ℕ → ℕ → ℕ
 closingFault records leaks n s = ifEq n (records + 1) (ifEq s leaks 0 6) 6
@@ -89,7 +94,7 @@ ownFault x (targetRec n t) = targetFault (x .counts .targets) n (facts t)
 ownFault x (leakRec n f) = leakFault (x .counts .scenarios) (x .counts .last) n f
 ownFault x (branchingRec b) = branchingFault (getD (x .trees) 0 0) (chance b)
 ownFault x (outcomeRec k n) = outcomeFault k n
-ownFault x (effectRec e) = effectFault (x .counts .targets) (x .kind) (x .next) (targetOf e) (intensity e) (duration e)
+ownFault x (effectRec e) = unitFault e (effectFault (x .counts .targets) (x .kind) (x .next) (targetOf e) (intensity e) (duration e))
 ownFault x (closingRec n s) = closingFault (x .counts .records) (x .counts .leaks) n s
 
 -- "For a record with several faults: 1, 2, 5, 3, 4, 6." 1 is a kind byte's and comes before a record is read. 0 is no fault.

@@ -3,7 +3,7 @@ use mathlib.Core.List.{List, [], _∷_, _++_}
 use Prim.Native.Nat.{ℕ, zero, suc, _+_, _/_, _%_, _^_}
 use lib.ListN.{length}
 use Rattle.model.specs.Sums.{sumOver, joinOver}
-use Rattle.model.specs.Content.{Branching, given, Target, described, Effect, inSeconds, Tree, outcome, branching, Scenario, Content}
+use Rattle.model.specs.Content.{Branching, given, Target, described, Effect, inSeconds, timed, Tree, outcome, branching, Scenario, Content}
 
 -- the first byte of a record says its kind
 abbrev pub openingKind : ℕ
@@ -26,6 +26,10 @@ effectKind = 6
 
 abbrev pub closingKind : ℕ
 closingKind = 7
+
+-- 02, request P6: an effect with the unit of its duration
+abbrev pub timedKind : ℕ
+timedKind = 8
 
 -- the record kinds of 01's table
 pub data Record : Type 0 where
@@ -55,6 +59,7 @@ encode (leakRec n f) = leakKind ∷ bytes 4 n ++ bytes 8 f
 encode (branchingRec (given p)) = branchingKind ∷ bytes 4 p
 encode (outcomeRec k n) = outcomeKind ∷ bytes 1 k ++ bytes 2 n
 encode (effectRec (inSeconds t i d)) = effectKind ∷ bytes 2 t ++ bytes 4 i ++ bytes 2 d
+encode (effectRec (timed t i d u)) = timedKind ∷ bytes 2 t ++ bytes 4 i ++ bytes 2 d ++ bytes 1 u
 encode (closingRec n s) = closingKind ∷ bytes 4 n ++ bytes 8 s
 
 -- 01, "Order": opening; targets; scenarios; closing

@@ -1,9 +1,9 @@
--- Proved. Three contents with their bytes and their figures, as numbers. Assumes nothing.
+-- Proved. Four contents with their bytes and their figures, as numbers. Assumes nothing.
 use mathlib.Core.Path.{_≡_}
 use mathlib.Core.List.{List, [], _∷_, _++_}
 use Prim.Native.Nat.{ℕ, zero, suc}
 use lib.ListN.{length}
-use Rattle.model.specs.Content.{given, Target, described, Effect, inSeconds, Tree, outcome, branching, Content}
+use Rattle.model.specs.Content.{given, Target, described, Effect, inSeconds, timed, Tree, outcome, branching, Content}
 use Rattle.model.specs.Format.{leaksOf, countOf, bytesOf}
 use Rattle.model.specs.Valid.{Valid}
 use Rattle.model.specs.Report.{kindTotal, unjudgedOf, sumAt, marginAt, exactAt, gradeOf, dominoOf}
@@ -228,3 +228,68 @@ tankFarmShown =
 
 abbrev pub TankFarmHolds : Type 0
 TankFarmHolds = Instance tankFarm tankFarmBytes tankFarmShown
+
+-- Fires timed in seconds and in tenths in one outcome (02, request P6), at 12,500 W/m²: 100 s, by kind 6 and by kind 8, count as 20, 39,865,194 - 36,380,000, Y 3,485,194,
+-- 6 %; 100 tenths are 43,982,487 - 42,274,618, Y 1,707,869, 0; 200 tenths are 45,756,943 - 42,274,618, Y 3,482,325, 6 %. On a vessel of 100,000 m³
+-- 15,001 W/m² for 6001 tenths are 44 %; on pressurised vessels of 1 m³ 60,000 W/m² for 6000 tenths do no damage, and for 6001 tenths 5 %.
+unfoldable pub fireballs : Content
+fireballs =
+    record {
+      number = 10;
+      targets = target 0 0 0 ∷ target 0 0 0 ∷ target 0 0 0 ∷ target 0 0 0 ∷ target 1 0 100000 ∷ target 2 0 1 ∷ target 2 0 1 ∷ [];
+      scenarios =
+          record {
+            number = 1;
+            frequency = 100000000;
+            tree =
+                outcome 3
+                (inSeconds 0 12500 100 ∷ timed 1 12500 100 0 ∷ timed 2 12500 100 1 ∷ timed 3 12500 200 1 ∷ timed 4 15001 6001 1 ∷ timed 5 60000 6000 1 ∷ timed 6 60000 6001 1 ∷ []);
+          }
+          ∷ [];
+    }
+
+abbrev pub fireballsBytes : List ℕ
+fireballsBytes =
+    1 ∷ 0 ∷ 0 ∷ 0 ∷ 10 ∷
+    2 ∷ 0 ∷ 0 ∷ 0 ∷ 0 ∷ 0 ∷ 0 ∷ 0 ∷ 0 ∷
+    2 ∷ 0 ∷ 1 ∷ 0 ∷ 0 ∷ 0 ∷ 0 ∷ 0 ∷ 0 ∷
+    2 ∷ 0 ∷ 2 ∷ 0 ∷ 0 ∷ 0 ∷ 0 ∷ 0 ∷ 0 ∷
+    2 ∷ 0 ∷ 3 ∷ 0 ∷ 0 ∷ 0 ∷ 0 ∷ 0 ∷ 0 ∷
+    2 ∷ 0 ∷ 4 ∷ 1 ∷ 0 ∷ 0 ∷ 1 ∷ 134 ∷ 160 ∷
+    2 ∷ 0 ∷ 5 ∷ 2 ∷ 0 ∷ 0 ∷ 0 ∷ 0 ∷ 1 ∷
+    2 ∷ 0 ∷ 6 ∷ 2 ∷ 0 ∷ 0 ∷ 0 ∷ 0 ∷ 1 ∷
+    3 ∷ 0 ∷ 0 ∷ 0 ∷ 1 ∷ 0 ∷ 0 ∷ 0 ∷ 0 ∷ 5 ∷ 245 ∷ 225 ∷ 0 ∷
+    5 ∷ 3 ∷ 0 ∷ 7 ∷
+    6 ∷ 0 ∷ 0 ∷ 0 ∷ 0 ∷ 48 ∷ 212 ∷ 0 ∷ 100 ∷
+    8 ∷ 0 ∷ 1 ∷ 0 ∷ 0 ∷ 48 ∷ 212 ∷ 0 ∷ 100 ∷ 0 ∷
+    8 ∷ 0 ∷ 2 ∷ 0 ∷ 0 ∷ 48 ∷ 212 ∷ 0 ∷ 100 ∷ 1 ∷
+    8 ∷ 0 ∷ 3 ∷ 0 ∷ 0 ∷ 48 ∷ 212 ∷ 0 ∷ 200 ∷ 1 ∷
+    8 ∷ 0 ∷ 4 ∷ 0 ∷ 0 ∷ 58 ∷ 153 ∷ 23 ∷ 113 ∷ 1 ∷
+    8 ∷ 0 ∷ 5 ∷ 0 ∷ 0 ∷ 234 ∷ 96 ∷ 23 ∷ 112 ∷ 1 ∷
+    8 ∷ 0 ∷ 6 ∷ 0 ∷ 0 ∷ 234 ∷ 96 ∷ 23 ∷ 113 ∷ 1 ∷
+    7 ∷ 0 ∷ 0 ∷ 0 ∷ 18 ∷ 0 ∷ 0 ∷ 0 ∷ 0 ∷ 5 ∷ 245 ∷ 225 ∷ 0 ∷ []
+
+abbrev pub fireballsShown : Shown
+fireballsShown =
+    record {
+      records = 18;
+      leaks = 100000000;
+      kinds = 0 ∷ 0 ∷ 0 ∷ 100000000 ∷ 0 ∷ 0 ∷ [];
+      unjudged = 0;
+      sums = 6000000 ∷ 6000000 ∷ 0 ∷ 6000000 ∷ 44000000 ∷ 0 ∷ 5000000 ∷ [];
+      margins = 1 ∷ 1 ∷ 1 ∷ 1 ∷ 1 ∷ 1 ∷ 1 ∷ [];
+      grades = 2 ∷ 2 ∷ 0 ∷ 2 ∷ 3 ∷ 0 ∷ 2 ∷ [];
+      domino = [];
+      exacts =
+          6000000000000000000000000000000000000000000000000000000000000
+          ∷ 6000000000000000000000000000000000000000000000000000000000000
+          ∷ 0
+          ∷ 6000000000000000000000000000000000000000000000000000000000000
+          ∷ 44000000000000000000000000000000000000000000000000000000000000
+          ∷ 0
+          ∷ 5000000000000000000000000000000000000000000000000000000000000
+          ∷ [];
+    }
+
+abbrev pub FireballsHold : Type 0
+FireballsHold = Instance fireballs fireballsBytes fireballsShown

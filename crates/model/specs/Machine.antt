@@ -88,9 +88,9 @@ begun h k =
 unfoldable pub grown : Reading → Reading
 grown h = reading openPhase (upTo 15 (h .have) 1) (upTo most64 (h .place) 1) (h .start) 0 0
 
--- a record is taken; the study goes on in a phase
+-- a record is taken; the study goes on in a phase, and a record that follows begins at the place
 unfoldable pub taken : Reading → ℕ → Reading
-taken h phase = reading phase 0 (h .place) (h .start) 0 0
+taken h phase = reading phase 0 (h .place) (h .place) 0 0
 
 -- a record is refused at its first byte
 unfoldable pub refusedWith : Reading → ℕ → Reading

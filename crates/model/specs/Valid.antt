@@ -4,9 +4,9 @@ use mathlib.Core.List.{List, [], _∷_}
 use Prim.Native.Nat.{ℕ, suc, _^_, _<_, _≤_}
 use lib.ListN.{length}
 use Rattle.numeric.specs.Share.{certain}
-use Rattle.terms.specs.Terms.{noEffect, fireball, flashFire, people, individual}
+use Rattle.terms.specs.Terms.{noEffect, fireball, flashFire, people, individual, tenthsUnit}
 use Rattle.model.specs.Bounds.{mostTargets, mostScenarios, mostRecords, mostAbove, mostVolume, leastFrequency, mostFrequency, mostEffects, mostKind, mostClass, mostSetting}
-use Rattle.model.specs.Content.{Branching, chance, Target, facts, Effect, targetOf, intensity, duration, Tree, outcome, branching, Scenario, Content}
+use Rattle.model.specs.Content.{Branching, chance, Target, facts, Effect, inSeconds, timed, targetOf, intensity, duration, Tree, outcome, branching, Scenario, Content}
 use Rattle.model.specs.Format.{countOf}
 
 -- every element of a list has a property
@@ -29,6 +29,11 @@ pub record ValidTarget (t : Target) : Type 0 where
 abbrev pub ValidBranching : Branching → Type 0
 ValidBranching b = chance b ≤ certain
 
+-- 02, request P6: the unit of an effect's duration, where it has one, is 0 or 1
+abbrev pub ValidUnit : Effect → Type 0
+ValidUnit (inSeconds t i d) = Unit {0}
+ValidUnit (timed t i d u) = u ≤ tenthsUnit
+
 -- Fires (1 to 3) have a duration of at least 1, kinds 4 and 5 have 0; the intensity of kind 4 is 0 or 1.
 pub record ValidEffect (kind targets : ℕ) (e : Effect) : Type 0 where
   pub declared : targetOf e < targets
@@ -36,6 +41,7 @@ pub record ValidEffect (kind targets : ℕ) (e : Effect) : Type 0 where
   pub fire : kind ≤ fireball → 1 ≤ duration e
   pub other : fireball < kind → duration e ≡ 0
   pub flash : kind ≡ flashFire → intensity e ≤ 1
+  pub unit : ValidUnit e
 
 -- an outcome: a known kind, at most 256 effects, none for kind 0, on declared targets in strictly rising order
 pub record ValidOutcome (targets kind : ℕ) (es : List Effect) : Type 0 where

@@ -4,7 +4,8 @@ use lib.IntN.{ℤ, pos, _-ℤ_}
 use Rattle.numeric.specs.Choice.{ifEq, ifLe}
 use Rattle.numeric.specs.Share.{certain}
 use Rattle.terms.specs.Scales.{Scales, standard}
-use Rattle.terms.specs.Terms.{outdoors, indoors, Clock, judgedAs, byKind}
+use Rattle.terms.specs.Terms.{outdoors, indoors, judgedAs, byKind}
+use Rattle.terms.specs.declared.Clock.{Clock}
 use Rattle.terms.specs.declared.Judged.{Judged}
 
 -- Y = -constant + (4 L(Q) + 3 L(t)) × 693,147 / 300 rounded down, in millionths

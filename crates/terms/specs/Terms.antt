@@ -3,6 +3,7 @@ use mathlib.Core.Bool.{true, false}
 use Prim.Native.Nat.{ℕ}
 use Rattle.numeric.specs.Choice.{ifEq, ifLe}
 use Rattle.terms.specs.declared.Judged.{Judged}
+use Rattle.terms.specs.declared.Clock.{Clock}
 
 -- outcome kinds: 0 no effect, 1 pool fire, 2 jet fire, 3 fireball, 4 flash fire, 5 explosion
 abbrev pub noEffect : ℕ
@@ -67,12 +68,22 @@ byKind kind fire flash blast other =
     (ifEq kind noEffect other
     (ifLe kind fireball fire other)))
 
--- How a fire's duration is counted: the longest that counts for people, what their probit takes off, and what equipment has to exceed
-pub record Clock : Type 0 where
-  pub longest : ℕ
-  pub constant : ℕ
-  pub limit : ℕ
-
+-- A clock: the longest duration that counts for people, what their probit takes off, and what a fire has to exceed to damage equipment.
 -- 01, "Death" and "Damage": durations in whole seconds
 abbrev pub seconds : Clock
 seconds = record { longest = 20; constant = 36380000; limit = 600 }
+
+-- 02, request P6: durations in tenths of a second
+abbrev pub tenths : Clock
+tenths = record { longest = 200; constant = 42274618; limit = 6000 }
+
+-- 02, request P6: the units of a duration, 0 seconds and 1 tenths
+abbrev pub secondsUnit : ℕ
+secondsUnit = 0
+
+abbrev pub tenthsUnit : ℕ
+tenthsUnit = 1
+
+-- the clock of a unit
+unfoldable pub clockOf : ℕ → Clock
+clockOf unit = ifEq unit tenthsUnit tenths seconds
