@@ -4,7 +4,7 @@ ghost use Rattle.model.specs.Machine.{taken, oneRecord, oneTarget, oneLeak};
 use state::Counts;
 use state::Reading;
 
-// A record is taken, and the study goes on in a phase.
+// A record is taken, and the study goes on in a phase: a record that follows begins at the place.
 pub(crate) fn take(h: Reading, phase: u32) -> Reading
     ensures { λ r. ⌜ r ≡ taken h phase ⌝ }
 {
@@ -12,7 +12,7 @@ pub(crate) fn take(h: Reading, phase: u32) -> Reading
         phase: phase,
         have: 0,
         place: h.place,
-        start: h.start,
+        start: h.place,
         number: 0,
         at: 0,
     }

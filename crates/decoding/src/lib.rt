@@ -3,8 +3,10 @@ ghost use mathlib.Core.Path.{_≡_};
 ghost use Prim.Native.Nat.{_+_, _*_, _<_};
 ghost use lib.ListN.{getD};
 ghost use Rattle.model.specs.Verdict.{bodyLength, field, factsAt};
+ghost use Rattle.decoding.specs.Effects.{unitOf};
 use state::record;
 use terms::Target;
+use terms::unit;
 
 // The length of a kind's body; 0 for an unknown kind.
 pub fn body_length(kind: u8) -> u8
@@ -30,6 +32,9 @@ pub fn body_length(kind: u8) -> u8
     }
     if kind == record::CLOSING {
         return 12;
+    }
+    if kind == record::TIMED_EFFECT {
+        return 9;
     }
     0
 }
@@ -91,6 +96,12 @@ pub fn byte_at_1(p: &[u8]) -> u8
     byte(p, 1)
 }
 
+pub fn byte_at_9(p: &[u8]) -> u8
+    ensures { λ r. ⌜ r ≡ field (now (p .entry)) 9 1 ⌝ }
+{
+    byte(p, 9)
+}
+
 pub fn half_at_1(p: &[u8]) -> u16
     ensures { λ r. ⌜ r ≡ field (now (p .entry)) 1 2 ⌝ }
 {
@@ -125,6 +136,16 @@ pub fn long_at_5(p: &[u8]) -> u64
     ensures { λ r. ⌜ r ≡ field (now (p .entry)) 5 8 ⌝ }
 {
     joined(word(p, 5), word(p, 9))
+}
+
+// The unit of an effect's duration, which kind 6 does not say.
+pub fn unit(p: &[u8]) -> u8
+    ensures { λ r. ⌜ r ≡ unitOf (now (p .entry)) ⌝ }
+{
+    if kind(p) == record::TIMED_EFFECT {
+        return byte_at_9(p);
+    }
+    unit::SECONDS
 }
 
 // Class, setting and volume of a target's record.

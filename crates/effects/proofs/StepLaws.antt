@@ -56,20 +56,23 @@ module _ (k x t q d : ℕ) where
 -- the numbers of an effect are read from its bytes, and at most 256 of the declared targets have a row
 pub record Read (targets limit : ℕ) (p : List ℕ) (t q d : ℕ) : Type 0 where
   pub rows : limit ≡ min targets 256
-  pub six : getD p 0 0 ≡ 6
   pub target : t ≡ field p 1 2
   pub intensity : q ≡ field p 3 4
   pub duration : d ≡ field p 7 2
 
 module _ {targets limit : ℕ} (b : Branch) (x : ℕ) {p : List ℕ} {t q d : ℕ} (r : Read targets limit p t q d) where
-  sound-by : sound targets (b .kind) x p ≡ ifEq (effectFault targets (b .kind) x t q d) 0 true false
-  unfolding sound
-  sound-by = rw (r .target, r .intensity, r .duration) (sym (eq-case _ _ _ _ (r .six) refl))
+  -- of whatever kind
+  abbrev kind : ℕ
+  kind = getD p 0 0
 
-  sound-is : effectFault targets (b .kind) x t q d ≡ 0 → sound targets (b .kind) x p ≡ true
+  sound-by : sound kind targets (b .kind) x p ≡ ifEq (effectFault targets (b .kind) x t q d) 0 true false
+  unfolding sound
+  sound-by = rw (r .target, r .intensity, r .duration) (sym (eq-case _ _ _ _ refl refl))
+
+  sound-is : effectFault targets (b .kind) x t q d ≡ 0 → sound kind targets (b .kind) x p ≡ true
   sound-is e = sound-by ∙ sym (eq-case _ _ _ _ e refl)
 
-  fault-is : sound targets (b .kind) x p ≡ true → effectFault targets (b .kind) x t q d ≡ 0
+  fault-is : sound kind targets (b .kind) x p ≡ true → effectFault targets (b .kind) x t q d ≡ 0
   fault-is e = eq-elim (sym sound-by ∙ e) (λ h a. h) (λ h a. no-false a)
 
   within : effectFault limit (b .kind) x t q d ≡ 0 → (effectFault targets (b .kind) x t q d ≡ 0) × (t < 256)
@@ -79,17 +82,17 @@ module _ {targets limit : ℕ} (b : Branch) (x : ℕ) {p : List ℕ} {t q d : �
   row-of e = within e .1
 
   -- on a target that has a row
-  pub next-row : effectFault limit (b .kind) x t q d ≡ 0 → t + 1 ≡ nextIn targets b x p
+  pub next-row : effectFault limit (b .kind) x t q d ≡ 0 → t + 1 ≡ nextIn kind targets b x p
   next-row e = rw (sound-is (within e .0), r .target) refl
 
-  pub taking-row : {judge : Judge} {s m f s' m' f' : List ℕ} {missed : ℕ} → effectFault limit (b .kind) x t q d ≡ 0 → Added judge b t q d s m f missed s' m' f' → Taking judge targets b x p s m f missed s' m' f'
+  pub taking-row : {judge : Judge} {s m f s' m' f' : List ℕ} {missed : ℕ} → effectFault limit (b .kind) x t q d ≡ 0 → Added judge b t q d s m f missed s' m' f' → Taking judge kind targets b x p s m f missed s' m' f'
   taking-row e a = record { taken = λ h. rw (← r .target, ← r .intensity, ← r .duration) a; left = λ h. no-false (sym h ∙ sound-is (within e .0)) }
 
   -- on one that has none
-  pub next-past : (n : ℕ) → n ≡ ifEq (effectFault targets (b .kind) x t q d) 0 (t + 1) 0 → n ≡ nextIn targets b x p
+  pub next-past : (n : ℕ) → n ≡ ifEq (effectFault targets (b .kind) x t q d) 0 (t + 1) 0 → n ≡ nextIn kind targets b x p
   next-past n e = e ∙ chosen (effectFault targets (b .kind) x t q d) (t + 1) ∙ rw (sound-by, ← r .target) refl
 
-  pub taking-past : {judge : Judge} {s m f : List ℕ} {missed : ℕ} → JudgesPeople judge → (effectFault limit (b .kind) x t q d ≡ 0 → ⊥) → missed ≡ 0 → Taking judge targets b x p s m f missed s m f
+  pub taking-past : {judge : Judge} {s m f : List ℕ} {missed : ℕ} → JudgesPeople judge → (effectFault limit (b .kind) x t q d ≡ 0 → ⊥) → missed ≡ 0 → Taking judge kind targets b x p s m f missed s m f
   taking-past {judge} {s} {m} {f} {missed} judges n z =
       record {
         taken = λ h. rw (← r .target, ← r .intensity, ← r .duration, z) (past-added judge judges b t q d s m f (beyond (fault-is h) (decLe 256 t)));
@@ -100,14 +103,14 @@ module _ {targets limit : ℕ} (b : Branch) (x : ℕ) {p : List ℕ} {t q d : �
       beyond e (yes w) = w
       beyond e (no w) = let v = names (b .kind) x t q d targets e in absurd (n (same (b .kind) x t q d targets limit (omega (arith, v .1, r .rows, w)) e))
 
--- bytes that begin with no effect
-module _ (targets : ℕ) (b : Branch) (x : ℕ) (p : List ℕ) (other : getD p 0 0 ≡ 6 → ⊥) where
-  unsound : sound targets (b .kind) x p ≡ false
+-- bytes that begin with another kind
+module _ (k targets : ℕ) (b : Branch) (x : ℕ) (p : List ℕ) (other : getD p 0 0 ≡ k → ⊥) where
+  unsound : sound k targets (b .kind) x p ≡ false
   unfolding sound
   unsound = sym (ne-case _ _ _ _ other refl)
 
-  pub next-none : 0 ≡ nextIn targets b x p
+  pub next-none : 0 ≡ nextIn k targets b x p
   next-none = rw unsound refl
 
-  pub taking-none : {judge : Judge} {s m f : List ℕ} {missed : ℕ} → Taking judge targets b x p s m f missed s m f
+  pub taking-none : {judge : Judge} {s m f : List ℕ} {missed : ℕ} → Taking judge k targets b x p s m f missed s m f
   taking-none = record { taken = λ h. no-false (sym unsound ∙ h); left = λ h. (refl, refl, refl) }

@@ -1,12 +1,11 @@
 -- For the proofs. Effects of one outcome, taken one after the other: the machine's steps on what they change. Assumes nothing.
 use mathlib.Core.Bool.{Bool, true, false}
 use mathlib.Core.List.{List}
-use Prim.Native.Nat.{ℕ, zero, suc, _+_, _*_}
+use Prim.Native.Nat.{ℕ, zero, suc, _+_}
 use lib.ListN.{getD, drop}
 use Rattle.numeric.specs.Choice.{pick, ifEq, ifLt}
 use Rattle.state.specs.declared.Branch.{Branch}
 use Rattle.model.specs.Bounds.{mostTargets}
-use Rattle.model.specs.Format.{effectKind}
 use Rattle.model.specs.Faults.{effectFault}
 use Rattle.model.specs.Verdict.{field}
 use Rattle.model.specs.Machine.{upTo, most32, store, rowOf, rowAfter}
@@ -31,21 +30,28 @@ afterEffect judge b g p =
     (store mostTargets (g .margins) (field p 1 2) (rowAfter (rowOf (g .sums) (g .margins) (g .facts) (field p 1 2)) b (judgedIn judge (g .facts) (b .kind) p .chance) .margin))
     (store mostTargets (g .facts) (field p 1 2) (rowAfter (rowOf (g .sums) (g .margins) (g .facts) (field p 1 2)) b (judgedIn judge (g .facts) (b .kind) p .chance) .facts))
 
--- after the first n effects of some bytes; an effect has nine
-unfoldable pub afterEffects : Judge → Branch → Figures → List ℕ → ℕ → Figures
-afterEffects judge b g l zero = g
-afterEffects judge b g l (suc n) = afterEffect judge b (afterEffects judge b g l n) (drop (n * 9) l)
+-- where the effect of a number begins, counted from 0, among effects of w bytes
+unfoldable pub offset : ℕ → ℕ → ℕ
+offset w zero = 0
+offset w (suc n) = offset w n + w
 
--- whether some bytes begin with an effect that has no fault of its own
-unfoldable pub sound : ℕ → ℕ → ℕ → List ℕ → Bool
-sound targets kind next p =
-    ifEq (getD p 0 0) effectKind
+-- after the first n effects of some bytes, of w bytes each
+unfoldable pub afterEffects : Judge → Branch → Figures → ℕ → List ℕ → ℕ → Figures
+afterEffects judge b g w l zero = g
+afterEffects judge b g w l (suc n) = afterEffect judge b (afterEffects judge b g w l n) (drop (offset w n) l)
+
+-- whether some bytes begin with an effect of a kind that has no fault but for its unit
+unfoldable pub sound : ℕ → ℕ → ℕ → ℕ → List ℕ → Bool
+sound k targets kind next p =
+    ifEq (getD p 0 0) k
     (ifEq (effectFault targets kind next (field p 1 2) (field p 3 4) (field p 7 2)) 0 true false)
     false
 
--- how many of the first n effects of some bytes are taken: those before the first that has one
-unfoldable pub takenOf : Judge → ℕ → Branch → Figures → List ℕ → ℕ → ℕ
-takenOf judge targets b g l zero = 0
-takenOf judge targets b g l (suc n) =
-    ifLt (takenOf judge targets b g l n) n (takenOf judge targets b g l n)
-    (pick (sound targets (b .kind) (afterEffects judge b g l n .next) (drop (n * 9) l)) (n + 1) n)
+-- how many of the first n pass a test: those before the first that does not
+unfoldable pub leading : (ℕ → Bool) → ℕ → ℕ
+leading test zero = 0
+leading test (suc n) = ifLt (leading test n) n (leading test n) (pick (test n) (n + 1) n)
+
+-- how many of the first n effects of some bytes are taken, of kind k and w bytes each
+abbrev pub takenOf : Judge → ℕ → ℕ → ℕ → Branch → Figures → List ℕ → ℕ → ℕ
+takenOf judge k w targets b g l n = leading (λ i. sound k targets (b .kind) (afterEffects judge b g w l i .next) (drop (offset w i) l)) n

@@ -1,3 +1,4 @@
 pub mod Judging
 pub mod Effects
+pub mod Timings
 pub mod Steps

@@ -2,30 +2,47 @@
 ghost use mathlib.Core.Path.{_≡_};
 ghost use mathlib.Core.Bool.{true, false};
 ghost use mathlib.Core.Logic.{_⊎_};
-ghost use Prim.Native.Nat.{_+_, _-_, _/_, _<_, _≤_, min};
+ghost use Prim.Native.Nat.{ℕ, _+_, _-_, _/_, _<_, _≤_, min};
 ghost use lib.ListN.{length, getD};
-ghost use Rattle.terms.specs.Terms.{fireball, flashFire, people, atmospheric, pressurised, pipe, seconds};
+ghost use Rattle.terms.specs.Terms.{noEffect, fireball, flashFire, tenthsUnit, people, atmospheric, pressurised, pipe};
+ghost use Rattle.terms.specs.declared.Clock.{Clock};
 ghost use Rattle.vulnerability.specs.Effect.{effectOn};
 ghost use Rattle.numeric.specs.Choice.{ifEq};
 ghost use Rattle.model.specs.Bounds.{mostTargets};
-ghost use Rattle.model.specs.Format.{effectKind};
 ghost use Rattle.model.specs.Faults.{effectFault};
 ghost use Rattle.model.specs.Machine.{upTo, most32, most64, store, markedFacts};
 ghost use Rattle.numeric.specs.Share.{shareOf};
-ghost use Rattle.effects.specs.Effects.{figures, afterEffects, takenOf};
+ghost use Rattle.effects.specs.Effects.{figures, offset, afterEffects, takenOf};
+ghost use Rattle.effects.specs.Timings.{timingOf, withUnit, alikeOf};
 ghost use Rattle.effects.specs.Steps.{Added, Taking, nextIn};
 use state::Branch;
 use state::MOST_TARGETS;
 use state::record;
+use terms::Clock;
 use terms::class;
 use terms::outcome;
-use terms::seconds;
+use terms::unit;
 
-// How many effects were taken, the least target that the next one may name, and the effects of the study so far that no rule judged.
+// How many effects were taken and how many bytes they have, the least target that the next one may name, and the effects of the study so far that no
+// rule judged.
 pub struct Taken {
     pub count: usize,
+    pub at: usize,
     pub next: u32,
     pub unjudged: u32,
+}
+
+// How effects that are taken in one loop are timed: the kind and the length of their records, and their clock.
+pub struct Timing {
+    pub kind: u8,
+    pub length: usize,
+    pub clock: Clock,
+}
+
+// Effects timed alike, and how many they are at most.
+struct Run {
+    pub timing: Timing,
+    pub top: usize,
 }
 
 // An effect: the least target that the next one may name, and 1 where no rule judged it. Both are 0 where it is not taken.
@@ -34,25 +51,74 @@ struct Step {
     pub next: u32,
 }
 
-// How many effects begin where sixteen bytes are there to read one in.
+// How many effects, of ten bytes at most, begin where sixteen bytes are there to read one in.
 fn room(len: usize) -> usize
-    ensures { λ r. ⌜ r ≡ (len - 7) / 9 ⌝ }
+    ensures { λ r. ⌜ r ≡ (len - 6) / 10 ⌝ }
 {
-    if len < 7 {
+    if len < 6 {
         return 0;
     }
-    (len - 7) / 9
+    (len - 6) / 10
 }
 
 // The same, of so many at most.
 fn reach(most: u32, len: usize) -> usize
-    ensures { λ r. ⌜ r ≡ min most ((len - 7) / 9) ⌝ }
+    ensures { λ r. ⌜ r ≡ min most ((len - 6) / 10) ⌝ }
 {
     let all = most as usize;
-    if all * 9 + 7 <= len {
+    if all * 10 + 6 <= len {
         return all;
     }
     room(len)
+}
+
+// How many of the first effects of kind 8 have a unit; none has a number that is no unit.
+fn with_unit(unit: u8, top: usize, bytes: &[u8]) -> usize
+    requires { ⌜ top ≤ (length (now bytes) - 6) / 10 ⌝ }
+    ensures { λ r. ⌜ r ≡ withUnit unit (now (bytes .entry)) top ⌝ }
+{
+    if unit::TENTHS < unit {
+        return 0;
+    }
+    let mut n: usize = 0;
+    while n < top {
+        let at = n * 10;
+        let p = &bytes[at..at + 16];
+        if decoding::byte_at_9(p) != unit {
+            return n;
+        }
+        n += 1;
+    }
+    n
+}
+
+// The effects that are taken with the first, which is of a kind: those of its kind and unit. The scan for the unit is kind 8's alone, so that the loop
+// over the effects asks for the kind and for nothing else.
+fn run_of(kind: u8, most: u32, bytes: &[u8]) -> Run
+    requires { ⌜ kind ≡ getD (now bytes) 0 0 ⌝ }
+    ensures { λ r. ⌜ (r .timing ≡ timingOf (now (bytes .entry))) × (r .top ≡ alikeOf (now (bytes .entry)) (min most ((length (now (bytes .entry)) - 6) / 10))) ⌝ }
+{
+    let top = reach(most, bytes.len());
+    if kind == record::TIMED_EFFECT {
+        let unit = decoding::byte_at_9(bytes);
+        let alike = with_unit(unit, top, bytes);
+        return Run {
+            timing: Timing {
+                kind: record::TIMED_EFFECT,
+                length: 10,
+                clock: terms::clock_of(unit),
+            },
+            top: alike,
+        };
+    }
+    Run {
+        timing: Timing {
+            kind: record::EFFECT,
+            length: 9,
+            clock: terms::clock_of(unit::SECONDS),
+        },
+        top: top,
+    }
 }
 
 // The targets that have a row.
@@ -64,6 +130,20 @@ fn with_row(targets: u16) -> u16
     } else {
         MOST_TARGETS
     }
+}
+
+// Whether an outcome is a pool fire, a jet fire or a fireball.
+fn is_fire(kind: u8) -> bool
+    ensures { λ r. ⌜ (r ≡ true → (noEffect < kind) × (kind ≤ fireball)) ⌝ }
+    ensures { λ r. ⌜ (r ≡ false → (kind ≡ noEffect) ⊎ (fireball < kind)) ⌝ }
+{
+    if kind == outcome::NO_EFFECT {
+        return false;
+    }
+    if kind <= outcome::FIREBALL {
+        return true;
+    }
+    false
 }
 
 // Whether a fire is judged on targets of a class whatever their volume: places of people, atmospheric vessels and pipes.
@@ -128,6 +208,7 @@ fn as_kept(sum: u64) -> u64
 // branch of their own, so that the rule that they alone have does not weigh on the others.
 fn fire_row(
     b: Branch,
+    clock: Clock,
     i: usize,
     q: u32,
     d: u16,
@@ -135,25 +216,22 @@ fn fire_row(
     margins: &mut [u32; 256],
     facts: &mut [u64; 256],
 ) -> u64
-    requires { ⌜ (i < mostTargets) × (b .kind ≤ fireball) ⌝ }
-    ensures { λ r. ⌜ Added (effectOn seconds) b i q d (now (sums .entry)) (now (margins .entry)) (now (facts .entry)) r (now (sums .exit)) (now (margins .exit)) (now (facts .exit)) ⌝ }
+    requires { ⌜ (i < mostTargets) × (noEffect < b .kind) × (b .kind ≤ fireball) ⌝ }
+    ensures { λ r. ⌜ Added (effectOn clock) b i q d (now (sums .entry)) (now (margins .entry)) (now (facts .entry)) r (now (sums .exit)) (now (margins .exit)) (now (facts .exit)) ⌝ }
     ensures { λ r. ⌜ r ≤ 1 ⌝ }
 {
     add_margin(b, i, margins);
     let known = facts[i];
     let sum = as_kept(sums[i]);
     let target = rows::unpack_facts(known);
-    if b.kind == outcome::NO_EFFECT {
-        return 0;
-    }
     if burns(target.class) {
-        let chance = vulnerability::fire(target, q, d);
+        let chance = vulnerability::fire(clock, target, q, d);
         add_chance(b, i, known, chance, sums, facts);
         return 0;
     }
     if equipment::judged_in_fire(target.class, target.volume) {
         if target.class == class::PRESSURISED {
-            let chance = equipment::sphere(seconds::LIMIT, target.volume, q, d);
+            let chance = equipment::sphere(clock.limit, target.volume, q, d);
             add_chance(b, i, known, chance, sums, facts);
             return 0;
         }
@@ -173,7 +251,7 @@ fn flash_row(
     facts: &mut [u64; 256],
 )
     requires { ⌜ (i < mostTargets) × (b .kind ≡ flashFire) ⌝ }
-    ensures { λ _. ⌜ Added (effectOn seconds) b i q d (now (sums .entry)) (now (margins .entry)) (now (facts .entry)) 0 (now (sums .exit)) (now (margins .exit)) (now (facts .exit)) ⌝ }
+    ensures { λ _. ⌜ ((clock : Clock) → Added (effectOn clock) b i q d (now (sums .entry)) (now (margins .entry)) (now (facts .entry)) 0 (now (sums .exit)) (now (margins .exit)) (now (facts .exit))) ⌝ }
 {
     add_margin(b, i, margins);
     let known = facts[i];
@@ -185,7 +263,7 @@ fn flash_row(
     }
 }
 
-// That of an explosion.
+// That of an explosion; an outcome of another kind harms nothing.
 fn blast_row(
     b: Branch,
     i: usize,
@@ -195,8 +273,8 @@ fn blast_row(
     margins: &mut [u32; 256],
     facts: &mut [u64; 256],
 )
-    requires { ⌜ (i < mostTargets) × (flashFire < b .kind) ⌝ }
-    ensures { λ _. ⌜ Added (effectOn seconds) b i q d (now (sums .entry)) (now (margins .entry)) (now (facts .entry)) 0 (now (sums .exit)) (now (margins .exit)) (now (facts .exit)) ⌝ }
+    requires { ⌜ (i < mostTargets) × ((b .kind ≡ noEffect) ⊎ (flashFire < b .kind)) ⌝ }
+    ensures { λ _. ⌜ ((clock : Clock) → Added (effectOn clock) b i q d (now (sums .entry)) (now (margins .entry)) (now (facts .entry)) 0 (now (sums .exit)) (now (margins .exit)) (now (facts .exit))) ⌝ }
 {
     add_margin(b, i, margins);
     let known = facts[i];
@@ -221,9 +299,11 @@ fn past_rows(targets: u16, kind: u8, next: u32, t: u16, q: u32, d: u16) -> Step
     Step { next: 0, missed: 0 }
 }
 
-// The effect that the bytes begin with, if it has no fault of its own, in an outcome of each form. Of the declared targets at most MOST_TARGETS have a row.
+// The effect that the bytes begin with, if it has no fault but for its unit, in an outcome of each form. Of the declared targets at most MOST_TARGETS
+// have a row.
 fn fire(
     b: Branch,
+    clock: Clock,
     targets: u16,
     limit: u16,
     next: u32,
@@ -232,15 +312,15 @@ fn fire(
     margins: &mut [u32; 256],
     facts: &mut [u64; 256],
 ) -> Step
-    requires { ⌜ (limit ≡ min targets mostTargets) × (getD (now p) 0 0 ≡ effectKind) × (b .kind ≤ fireball) ⌝ }
-    ensures { λ r. ⌜ (r .next ≡ nextIn targets b next (now (p .entry))) × (r .missed ≤ 1) ⌝ }
-    ensures { λ r. ⌜ Taking (effectOn seconds) targets b next (now (p .entry)) (now (sums .entry)) (now (margins .entry)) (now (facts .entry)) (r .missed) (now (sums .exit)) (now (margins .exit)) (now (facts .exit)) ⌝ }
+    requires { ⌜ (limit ≡ min targets mostTargets) × (noEffect < b .kind) × (b .kind ≤ fireball) ⌝ }
+    ensures { λ r. ⌜ (r .next ≡ nextIn (getD (now (p .entry)) 0 0) targets b next (now (p .entry))) × (r .missed ≤ 1) ⌝ }
+    ensures { λ r. ⌜ Taking (effectOn clock) (getD (now (p .entry)) 0 0) targets b next (now (p .entry)) (now (sums .entry)) (now (margins .entry)) (now (facts .entry)) (r .missed) (now (sums .exit)) (now (margins .exit)) (now (facts .exit)) ⌝ }
 {
     let t = decoding::half_at_1(p);
     let q = decoding::word_at_3(p);
     let d = decoding::half_at_7(p);
     if faults::effect_fault(limit, b.kind, next, t, q, d) == 0 {
-        let missed = fire_row(b, t as usize, q, d, sums, margins, facts);
+        let missed = fire_row(b, clock, t as usize, q, d, sums, margins, facts);
         return Step {
             next: (t as u32) + 1,
             missed: missed,
@@ -259,9 +339,9 @@ fn flash(
     margins: &mut [u32; 256],
     facts: &mut [u64; 256],
 ) -> Step
-    requires { ⌜ (limit ≡ min targets mostTargets) × (getD (now p) 0 0 ≡ effectKind) × (b .kind ≡ flashFire) ⌝ }
-    ensures { λ r. ⌜ (r .next ≡ nextIn targets b next (now (p .entry))) × (r .missed ≤ 1) ⌝ }
-    ensures { λ r. ⌜ Taking (effectOn seconds) targets b next (now (p .entry)) (now (sums .entry)) (now (margins .entry)) (now (facts .entry)) (r .missed) (now (sums .exit)) (now (margins .exit)) (now (facts .exit)) ⌝ }
+    requires { ⌜ (limit ≡ min targets mostTargets) × (b .kind ≡ flashFire) ⌝ }
+    ensures { λ r. ⌜ (r .next ≡ nextIn (getD (now (p .entry)) 0 0) targets b next (now (p .entry))) × (r .missed ≤ 1) ⌝ }
+    ensures { λ r. ⌜ ((clock : Clock) → Taking (effectOn clock) (getD (now (p .entry)) 0 0) targets b next (now (p .entry)) (now (sums .entry)) (now (margins .entry)) (now (facts .entry)) (r .missed) (now (sums .exit)) (now (margins .exit)) (now (facts .exit))) ⌝ }
 {
     let t = decoding::half_at_1(p);
     let q = decoding::word_at_3(p);
@@ -286,9 +366,9 @@ fn blast(
     margins: &mut [u32; 256],
     facts: &mut [u64; 256],
 ) -> Step
-    requires { ⌜ (limit ≡ min targets mostTargets) × (getD (now p) 0 0 ≡ effectKind) × (flashFire < b .kind) ⌝ }
-    ensures { λ r. ⌜ (r .next ≡ nextIn targets b next (now (p .entry))) × (r .missed ≤ 1) ⌝ }
-    ensures { λ r. ⌜ Taking (effectOn seconds) targets b next (now (p .entry)) (now (sums .entry)) (now (margins .entry)) (now (facts .entry)) (r .missed) (now (sums .exit)) (now (margins .exit)) (now (facts .exit)) ⌝ }
+    requires { ⌜ (limit ≡ min targets mostTargets) × ((b .kind ≡ noEffect) ⊎ (flashFire < b .kind)) ⌝ }
+    ensures { λ r. ⌜ (r .next ≡ nextIn (getD (now (p .entry)) 0 0) targets b next (now (p .entry))) × (r .missed ≤ 1) ⌝ }
+    ensures { λ r. ⌜ ((clock : Clock) → Taking (effectOn clock) (getD (now (p .entry)) 0 0) targets b next (now (p .entry)) (now (sums .entry)) (now (margins .entry)) (now (facts .entry)) (r .missed) (now (sums .exit)) (now (margins .exit)) (now (facts .exit))) ⌝ }
 {
     let t = decoding::half_at_1(p);
     let q = decoding::word_at_3(p);
@@ -306,6 +386,7 @@ fn blast(
 // The kind of the outcome is asked first: it is the same for all effects of a loop.
 fn take_one(
     b: Branch,
+    timing: Timing,
     targets: u16,
     limit: u16,
     next: u32,
@@ -315,12 +396,12 @@ fn take_one(
     facts: &mut [u64; 256],
 ) -> Step
     requires { ⌜ (limit ≡ min targets mostTargets) ⌝ }
-    ensures { λ r. ⌜ (r .next ≡ nextIn targets b next (now (p .entry))) × (r .missed ≤ 1) ⌝ }
-    ensures { λ r. ⌜ Taking (effectOn seconds) targets b next (now (p .entry)) (now (sums .entry)) (now (margins .entry)) (now (facts .entry)) (r .missed) (now (sums .exit)) (now (margins .exit)) (now (facts .exit)) ⌝ }
+    ensures { λ r. ⌜ (r .next ≡ nextIn (timing .kind) targets b next (now (p .entry))) × (r .missed ≤ 1) ⌝ }
+    ensures { λ r. ⌜ Taking (effectOn (timing .clock)) (timing .kind) targets b next (now (p .entry)) (now (sums .entry)) (now (margins .entry)) (now (facts .entry)) (r .missed) (now (sums .exit)) (now (margins .exit)) (now (facts .exit)) ⌝ }
 {
-    if decoding::kind(p) == record::EFFECT {
-        if b.kind <= outcome::FIREBALL {
-            return fire(b, targets, limit, next, p, sums, margins, facts);
+    if decoding::kind(p) == timing.kind {
+        if is_fire(b.kind) {
+            return fire(b, timing.clock, targets, limit, next, p, sums, margins, facts);
         }
         if b.kind == outcome::FLASH_FIRE {
             return flash(b, targets, limit, next, p, sums, margins, facts);
@@ -338,7 +419,7 @@ fn unjudged_after(before: u32, missed: u64) -> u32
     numeric::add32(before, missed as u32)
 }
 
-// Takes the effects that the bytes begin with, in an outcome's branch, up to the first that is unsound.
+// Takes the effects that the bytes begin with, in an outcome's branch, up to the first that is unsound or timed otherwise than the first.
 pub fn take_effects(
     b: Branch,
     targets: u16,
@@ -349,25 +430,30 @@ pub fn take_effects(
     margins: &mut [u32; 256],
     facts: &mut [u64; 256],
 ) -> Taken
-    ensures { λ r. ⌜ r .count ≡ takenOf (effectOn seconds) targets b (figures (b .next) before (now (sums .entry)) (now (margins .entry)) (now (facts .entry))) (now (bytes .entry)) (min most ((length (now (bytes .entry)) - 7) / 9)) ⌝ }
-    ensures { λ r. ⌜ figures (r .next) (r .unjudged) (now (sums .exit)) (now (margins .exit)) (now (facts .exit)) ≡ afterEffects (effectOn seconds) b (figures (b .next) before (now (sums .entry)) (now (margins .entry)) (now (facts .entry))) (now (bytes .entry)) (r .count) ⌝ }
+    ensures { λ r. ⌜ (r .count ≡ takenOf (effectOn (timingOf (now (bytes .entry)) .clock)) (timingOf (now (bytes .entry)) .kind) (timingOf (now (bytes .entry)) .length) targets b (figures (b .next) before (now (sums .entry)) (now (margins .entry)) (now (facts .entry))) (now (bytes .entry)) (alikeOf (now (bytes .entry)) (min most ((length (now (bytes .entry)) - 6) / 10)))) × (r .at ≡ offset (timingOf (now (bytes .entry)) .length) (r .count)) ⌝ }
+    ensures { λ r. ⌜ figures (r .next) (r .unjudged) (now (sums .exit)) (now (margins .exit)) (now (facts .exit)) ≡ afterEffects (effectOn (timingOf (now (bytes .entry)) .clock)) b (figures (b .next) before (now (sums .entry)) (now (margins .entry)) (now (facts .entry))) (timingOf (now (bytes .entry)) .length) (now (bytes .entry)) (r .count) ⌝ }
 {
-    let top = reach(most, bytes.len());
+    let run = run_of(decoding::kind(bytes), most, bytes);
+    let timing = run.timing;
+    let length = timing.length;
+    let top = run.top;
     let limit = with_row(targets);
+    let mut at: usize = 0;
     let mut count: usize = 0;
-    let mut next = b.next;
     let mut missed: u64 = 0;
+    let mut next = b.next;
     while count < top {
-        let at = count * 9;
         let p = &bytes[at..at + 16];
-        let s = take_one(b, targets, limit, next, p, sums, margins, facts);
+        let s = take_one(b, timing, targets, limit, next, p, sums, margins, facts);
         if s.next != 0 {
             next = s.next;
             missed += s.missed;
             count += 1;
+            at += length;
         } else {
             return Taken {
                 count: count,
+                at: at,
                 next: next,
                 unjudged: unjudged_after(before, missed),
             };
@@ -375,6 +461,7 @@ pub fn take_effects(
     }
     Taken {
         count: count,
+        at: at,
         next: next,
         unjudged: unjudged_after(before, missed),
     }

@@ -1,11 +1,14 @@
 // The fault of a record where none of a study's bounds is compared (document 01, "Numbers the desk says no with"); 0 is none.
 ghost use mathlib.Core.Path.{_≡_};
-ghost use Rattle.numeric.specs.Choice.{ifEq};
+ghost use Rattle.numeric.specs.Choice.{ifEq, ifLt};
+ghost use Rattle.terms.specs.Terms.{tenthsUnit};
 ghost use Rattle.model.specs.Faults.{orderFault, namingFault, effectFault, closingFault};
 ghost use Rattle.model.specs.Verdict.{field};
+ghost use Rattle.decoding.specs.Effects.{unitOf};
 use state::Core;
 use state::record;
 use terms::outcome;
+use terms::unit;
 
 fn only(k: u8, allowed: u8) -> u8
     ensures { λ r. ⌜ r ≡ ifEq k allowed 0 2 ⌝ }
@@ -94,10 +97,13 @@ pub fn effect_fault(targets: u16, kind: u8, next: u32, t: u16, intensity: u32, d
     3
 }
 
-// The same of its bytes.
+// The same of its bytes. A last byte that is no unit comes before all others.
 pub fn own_effect(targets: u16, kind: u8, next: u32, p: &[u8]) -> u8
-    ensures { λ r. ⌜ r ≡ effectFault targets kind next (field (now (p .entry)) 1 2) (field (now (p .entry)) 3 4) (field (now (p .entry)) 7 2) ⌝ }
+    ensures { λ r. ⌜ r ≡ ifLt tenthsUnit (unitOf (now (p .entry))) 3 (effectFault targets kind next (field (now (p .entry)) 1 2) (field (now (p .entry)) 3 4) (field (now (p .entry)) 7 2)) ⌝ }
 {
+    if unit::TENTHS < decoding::unit(p) {
+        return 3;
+    }
     let t = decoding::half_at_1(p);
     let intensity = decoding::word_at_3(p);
     let duration = decoding::half_at_7(p);

@@ -12,3 +12,6 @@ pub const OUTCOME: u8 = 5;
 pub const EFFECT: u8 = 6;
 
 pub const CLOSING: u8 = 7;
+
+// an effect with the unit of its duration
+pub const TIMED_EFFECT: u8 = 8;

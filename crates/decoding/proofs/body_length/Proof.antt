@@ -36,9 +36,13 @@ returns-7 c = ne-case _ _ _ _ (search needs) (ne-case _ _ _ _ (search needs) (ne
 
 returns-8 : tie.Need-returns-8
 unfolding bodyLength
-returns-8 c = ne-case _ _ _ _ (search needs) (ne-case _ _ _ _ (search needs) (ne-case _ _ _ _ (search needs) (ne-case _ _ _ _ (search needs) (ne-case _ _ _ _ (search needs) (ne-case _ _ _ _ (search needs) (ne-case _ _ _ _ (search needs) (refl)))))))
+returns-8 c = ne-case _ _ _ _ (search needs) (ne-case _ _ _ _ (search needs) (ne-case _ _ _ _ (search needs) (ne-case _ _ _ _ (search needs) (ne-case _ _ _ _ (search needs) (ne-case _ _ _ _ (search needs) (ne-case _ _ _ _ (search needs) (eq-case _ _ _ _ (search needs) (refl))))))))
+
+returns-9 : tie.Need-returns-9
+unfolding bodyLength
+returns-9 c = ne-case _ _ _ _ (search needs) (ne-case _ _ _ _ (search needs) (ne-case _ _ _ _ (search needs) (ne-case _ _ _ _ (search needs) (ne-case _ _ _ _ (search needs) (ne-case _ _ _ _ (search needs) (ne-case _ _ _ _ (search needs) (ne-case _ _ _ _ (search needs) (refl))))))))
 
 pub body-length-spec : {M : Type 1} → statement M
 body-length-spec =
     tie.close
-    (tie.spec returns returns-2 returns-3 returns-4 returns-5 returns-6 returns-7 returns-8)
+    (tie.spec returns returns-2 returns-3 returns-4 returns-5 returns-6 returns-7 returns-8 returns-9)

@@ -27,14 +27,14 @@ read-at : (c : tie.After-effect-fault) → let d = c .before in let s = d .befor
 read-at c =
     let d = c .before in
     let s = d .before .before .before .before in
-    record { rows = s .pre .0; six = s .pre .1; target = d .before .before .half-at-1 .ensures; intensity = d .before .word-at-3 .ensures; duration = d .half-at-7 .ensures }
+    record { rows = s .pre .0; target = d .before .before .half-at-1 .ensures; intensity = d .before .word-at-3 .ensures; duration = d .half-at-7 .ensures }
 
 blast-row-requires : tie.Need-blast-row-requires
 blast-row-requires c κs =
     let z = c .before .before .before in
     let e = z .before in
     let s = e .before .before .before .before .before in
-    (row-of (s .args .b) (s .args .next) (read-at e) (sym (e .effect-fault .ensures) ∙ z .if1 .taken), s .pre .2)
+    (row-of (s .args .b) (s .args .next) (read-at e) (sym (e .effect-fault .ensures) ∙ z .if1 .taken), s .pre .1)
 
 cast-t19 : tie.Need-cast-t19
 cast-t19 c = search needs
@@ -48,7 +48,7 @@ returns c =
     let e = z .before in
     let s = e .before .before .before .before .before in
     let fault = sym (e .effect-fault .ensures) ∙ z .if1 .taken in
-    ((next-row (s .args .b) (s .args .next) (read-at e) fault, omega arith), taking-row (s .args .b) (s .args .next) (read-at e) fault (c .blast-row .ensures))
+    ((next-row (s .args .b) (s .args .next) (read-at e) fault, omega arith), λ clock. taking-row (s .args .b) (s .args .next) (read-at e) fault (c .blast-row .ensures clock))
 
 past-rows-requires : tie.Need-past-rows-requires
 past-rows-requires c κs = search needs
@@ -59,7 +59,7 @@ returns-2 c =
     let e = z .before in
     let s = e .before .before .before .before .before in
     let past = c .past-rows .ensures in
-    ((next-past (s .args .b) (s .args .next) (read-at e) _ (past .0), omega (arith, past .1)), taking-past (s .args .b) (s .args .next) (read-at e) (people-judged _) (λ k. z .if1 .left (e .effect-fault .ensures ∙ k)) (past .1))
+    ((next-past (s .args .b) (s .args .next) (read-at e) _ (past .0), omega (arith, past .1)), λ clock. taking-past (s .args .b) (s .args .next) (read-at e) (people-judged _ clock) (λ k. z .if1 .left (e .effect-fault .ensures ∙ k)) (past .1))
 
 pub blast-spec : {M : Type 1} → statement M
 blast-spec =

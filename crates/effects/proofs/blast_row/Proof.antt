@@ -1,6 +1,6 @@
 -- `effects::blast_row` meets its contract. Assumes nothing.
 use mathlib.Core.Path.{refl}
-use mathlib.Core.Logic.{inr}
+use mathlib.Core.Logic.{⊎-elim, inl, inr}
 use native.Mathlib.Omega.{arith}
 use Rattle.terms.specs.Terms.{judgedAs}
 use Rattle.vulnerability.proofs.FormLaws.{blast-judged, without-effect}
@@ -37,23 +37,23 @@ add-chance-requires : tie.Need-add-chance-requires
 add-chance-requires c κs = search needs
 
 returns : tie.Need-returns
-returns c =
+returns c clock =
     let x = c .before .before .before in
     let t = x .before in
     let k = t .before .before in
     let a = k .before .before .before .before in
     let s = a .before .before in
     let five = t .if1 .taken in
-    added _ _ _ _ _ _ _ _ _ (s .pre .0) (a .add-margin .ensures) _ (k .unpack-facts .ensures) _ _ _ (rw five (x .blast .ensures _)) (blast-judged _ _ _ _ _ five) (c .add-chance .ensures .0) (c .add-chance .ensures .1)
+    added _ _ _ _ _ _ _ _ _ (s .pre .0) (a .add-margin .ensures) _ (k .unpack-facts .ensures) _ _ _ (rw five (x .blast .ensures clock _)) (blast-judged _ _ _ _ _ _ five) (c .add-chance .ensures .0) (c .add-chance .ensures .1)
 
 returns-2 : tie.Need-returns-2
-returns-2 c =
+returns-2 c clock =
     let k = c .before .before in
     let w = k .before .as-kept .ensures in
     let a = k .before .before .before .before in
     let s = a .before .before in
-    let above = s .pre .1 in
-    spared _ _ _ _ _ _ _ _ _ (s .pre .0) (a .add-margin .ensures) _ (k .unpack-facts .ensures) (judgedAs 0) 0 (without-effect _ _ _ _ _ (inr (omega (arith, above), λ e. omega (arith, e, above), c .if1 .left))) refl refl (omega (arith, w .0, w .1))
+    let other = c .if1 .left in
+    spared _ _ _ _ _ _ _ _ _ (s .pre .0) (a .add-margin .ensures) _ (k .unpack-facts .ensures) (judgedAs 0) 0 (without-effect _ _ _ _ _ _ (⊎-elim inl (λ h. inr (omega (arith, h), λ e. omega (arith, e, h), other)) (s .pre .1))) refl refl (omega (arith, w .0, w .1))
 
 pub blast-row-spec : {M : Type 1} → statement M
 blast-row-spec =

@@ -27,20 +27,20 @@ read-at : (c : tie.After-effect-fault) → let d = c .before in let s = d .befor
 read-at c =
     let d = c .before in
     let s = d .before .before .before .before in
-    record { rows = s .pre .0; six = s .pre .1; target = d .before .before .half-at-1 .ensures; intensity = d .before .word-at-3 .ensures; duration = d .half-at-7 .ensures }
+    record { rows = s .pre .0; target = d .before .before .half-at-1 .ensures; intensity = d .before .word-at-3 .ensures; duration = d .half-at-7 .ensures }
 
 fire-row-requires : tie.Need-fire-row-requires
 fire-row-requires c κs =
     let z = c .before .before .before in
     let e = z .before in
     let s = e .before .before .before .before .before in
-    (row-of (s .args .b) (s .args .next) (read-at e) (sym (e .effect-fault .ensures) ∙ z .if1 .taken), s .pre .2)
+    (row-of (s .args .b) (s .args .next) (read-at e) (sym (e .effect-fault .ensures) ∙ z .if1 .taken), s .pre .1, s .pre .2)
 
-cast-t19 : tie.Need-cast-t19
-cast-t19 c = search needs
+cast-t20 : tie.Need-cast-t20
+cast-t20 c = search needs
 
-add-t20 : tie.Need-add-t20
-add-t20 c = search needs
+add-t21 : tie.Need-add-t21
+add-t21 c = search needs
 
 returns : tie.Need-returns
 returns c =
@@ -59,7 +59,7 @@ returns-2 c =
     let e = z .before in
     let s = e .before .before .before .before .before in
     let past = c .past-rows .ensures in
-    ((next-past (s .args .b) (s .args .next) (read-at e) _ (past .0), omega (arith, past .1)), taking-past (s .args .b) (s .args .next) (read-at e) (people-judged _) (λ k. z .if1 .left (e .effect-fault .ensures ∙ k)) (past .1))
+    ((next-past (s .args .b) (s .args .next) (read-at e) _ (past .0), omega (arith, past .1)), taking-past (s .args .b) (s .args .next) (read-at e) (people-judged _ _) (λ k. z .if1 .left (e .effect-fault .ensures ∙ k)) (past .1))
 
 pub fire-spec : {M : Type 1} → statement M
 fire-spec =
@@ -71,8 +71,8 @@ fire-spec =
     effect-fault-requires
     cast-fire-row
     fire-row-requires
-    cast-t19
-    add-t20
+    cast-t20
+    add-t21
     returns
     past-rows-requires
     returns-2)

@@ -37,22 +37,22 @@ add-chance-requires : tie.Need-add-chance-requires
 add-chance-requires c κs = search needs
 
 returns : tie.Need-returns
-returns c =
+returns c clock =
     let x = c .before .before .before in
     let t = x .before in
     let k = t .before .before in
     let a = k .before .before .before .before in
     let s = a .before .before in
-    added _ _ _ _ _ _ _ _ _ (s .pre .0) (a .add-margin .ensures) _ (k .unpack-facts .ensures) _ _ _ (rw (s .pre .1) (x .flash .ensures _)) (judged-of (people-flash _ _ _ _ _ (s .pre .1) (t .if1 .taken))) (c .add-chance .ensures .0) (c .add-chance .ensures .1)
+    added _ _ _ _ _ _ _ _ _ (s .pre .0) (a .add-margin .ensures) _ (k .unpack-facts .ensures) _ _ _ (rw (s .pre .1) (x .flash .ensures clock _)) (judged-of (people-flash _ _ _ _ _ _ (s .pre .1) (t .if1 .taken))) (c .add-chance .ensures .0) (c .add-chance .ensures .1)
 
 returns-2 : tie.Need-returns-2
-returns-2 c =
+returns-2 c clock =
     let k = c .before .before in
     let w = k .before .as-kept .ensures in
     let a = k .before .before .before .before in
     let s = a .before .before in
     let four = s .pre .1 in
-    spared _ _ _ _ _ _ _ _ _ (s .pre .0) (a .add-margin .ensures) _ (k .unpack-facts .ensures) (judgedAs 0) 0 (equipment-spared _ _ _ _ _ (c .if1 .left) (inr (omega (arith, four), λ e. omega (arith, e, four)))) refl refl (omega (arith, w .0, w .1))
+    spared _ _ _ _ _ _ _ _ _ (s .pre .0) (a .add-margin .ensures) _ (k .unpack-facts .ensures) (judgedAs 0) 0 (equipment-spared _ _ _ _ _ _ (c .if1 .left) (inr (omega (arith, four), λ e. omega (arith, e, four)))) refl refl (omega (arith, w .0, w .1))
 
 pub flash-row-spec : {M : Type 1} → statement M
 flash-row-spec =
