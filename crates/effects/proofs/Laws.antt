@@ -44,6 +44,10 @@ pub offset-none : (w : ℕ) → 0 ≡ offset w 0
 unfolding offset
 offset-none w = refl
 
+pub offset-one : (w : ℕ) → offset w 1 ≡ w
+unfolding offset
+offset-one w = omega arith
+
 pub offset-more : (w n : ℕ) → offset w n + w ≡ offset w (n + 1)
 unfolding offset
 offset-more w n = rw add-one refl

@@ -3,13 +3,15 @@ use mathlib.Core.Path.{_≡_, refl, sym, _∙_, subst}
 use mathlib.Core.Bool.{Bool, true, false}
 use mathlib.Core.List.{List}
 use Prim.Native.Nat.{ℕ, _<_, _≤_, min}
+use native.Mathlib.Decide.{ℕ-discrete}
 use native.Mathlib.Omega.{arith}
 use lib.Dec.{T}
 use lib.ListN.{getD, drop}
 use Rattle.numeric.specs.Choice.{ifEq, ifLt}
-use Rattle.numeric.proofs.ChoiceLaws.{eq-case, ne-case, eq-both, lt-both, eq-first, lt-elim}
+use Rattle.numeric.proofs.ChoiceLaws.{eq-case, ne-case, ge-case, eq-both, lt-both, eq-first, lt-elim}
 use Rattle.terms.specs.Terms.{clockOf}
 use Rattle.model.specs.Verdict.{field}
+use Rattle.decoding.specs.Effects.{unitOf}
 use Rattle.effects.specs.declared.Timing.{Timing}
 use Rattle.effects.specs.Effects.{offset, leading}
 use Rattle.effects.specs.Timings.{timingOf, withUnit, alikeOf}
@@ -48,6 +50,29 @@ alike-eight l n h = eq-case _ _ _ _ h refl
 pub alike-six : (l : List ℕ) (n : ℕ) → (getD l 0 0 ≡ 8 → ⊥) → n ≡ alikeOf l n
 unfolding alikeOf
 alike-six l n h = ne-case _ _ _ _ h refl
+
+-- the first is among them, where its unit is one
+first-has : (u : ℕ) (l : List ℕ) (n : ℕ) → u ≡ field l 9 1 → u ≤ 1 → 0 < n → 0 < withUnit u l n
+unfolding withUnit offset
+first-has u l n e h w =
+    let r = leading-is has n in
+    let t : true ≡ has 0 = eq-case _ _ _ _ (sym e) refl in
+    let s : leading has n ≡ withUnit u l n = ge-case _ _ _ _ h refl in
+    let z : leading has n ≡ 0 → ⊥ = λ q. subst T (t ∙ (rw q at (r .stops (omega (arith, w, q))))) tt in
+    omega (arith, z, s)
+  where
+    has : ℕ → Bool
+    has j = ifEq (field (drop (offset 10 j) l) 9 1) u true false
+
+pub alike-some : (l : List ℕ) (n : ℕ) → unitOf l ≤ 1 → 0 < n → 0 < alikeOf l n
+unfolding alikeOf unitOf
+alike-some l n h w = go (ℕ-discrete (getD l 0 0) 8)
+  where
+    go : Dec (getD l 0 0 ≡ 8) → 0 < alikeOf l n
+    go (yes e) =
+        let u : field l 9 1 ≡ unitOf l = eq-case _ _ _ _ e refl in
+        omega (arith, alike-eight l n e, first-has (field l 9 1) l n refl (omega (arith, h, u)) w)
+    go (no e) = omega (arith, alike-six l n e, w)
 
 -- the effects of kind 8 that are counted have one unit, which is a unit
 no-false : false ≡ true → ⊥

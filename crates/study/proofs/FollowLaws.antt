@@ -1,33 +1,40 @@
 -- Effects that follow one another leave what their bytes leave when they are read one by one. Assumes nothing.
-use mathlib.Core.Path.{_≡_, refl, sym, _∙_, subst}
+use mathlib.Core.Path.{_≡_, refl, sym, _∙_, ap, subst}
 use mathlib.Core.Bool.{Bool, true, false}
+use mathlib.Core.Logic.{inl, inr}
 use mathlib.Core.List.{List}
 use Prim.Native.Nat.{ℕ, zero, suc, _+_, _-_, _*_, _<_, _≤_}
 use native.Mathlib.Decide.{decLe}
 use native.Mathlib.Omega.{arith}
 use lib.ListN.{length, getD, drop, replicate, length-drop}
 use lib.Dec.{T}
-use Rattle.numeric.specs.Choice.{pick, ifEq}
-use Rattle.numeric.proofs.ChoiceLaws.{eq-case, ne-case, lt-case, gt-case, eq-first, eq-second, le-second, lt-first, eq-elim, lt-elim}
-use Rattle.terms.specs.Terms.{seconds}
+use Rattle.numeric.specs.Choice.{pick, ifEq, ifLt}
+use Rattle.numeric.proofs.ChoiceLaws.{eq-case, ne-case, lt-case, ge-case, gt-case, eq-first, eq-second, le-second, lt-first, eq-elim, lt-elim}
+use Rattle.terms.specs.Terms.{clockOf}
+use Rattle.terms.specs.declared.Clock.{Clock}
 use Rattle.vulnerability.specs.Effect.{effectOn}
 use Rattle.state.specs.declared.Core.{Core}
 use Rattle.model.specs.Bounds.{mostRecords}
-use Rattle.model.specs.Content.{inSeconds}
+use Rattle.model.specs.Content.{clock}
 use Rattle.model.specs.Format.{effectRec}
-use Rattle.model.specs.Faults.{orderFault, effectFault, ownFault}
-use Rattle.model.specs.Verdict.{field, decode}
+use Rattle.model.specs.Faults.{orderFault, effectFault, unitFault, ownFault}
+use Rattle.model.specs.Verdict.{bodyLength, field, decode}
 use Rattle.model.specs.Machine.{State, state, core, upTo, most32, most64, taken, oneRecord, effectBranch, effectTally, rowAfter, accepted, effectState, recordRead}
 use Rattle.counting.specs.Kinds.{withKinds}
-use Rattle.decoding.proofs.DecodeLaws.{decode-effect}
-use Rattle.effects.specs.Judging.{judgedIn}
-use Rattle.effects.specs.Effects.{Figures, figures, afterEffect, afterEffects, sound}
-use Rattle.effects.proofs.Laws.{effects-more}
+use Rattle.decoding.specs.Effects.{unitOf, effectOf}
+use Rattle.decoding.proofs.DecodeLaws.{decode-effect, effect-target, effect-intensity, effect-duration, effect-clock, effect-unit}
+use Rattle.effects.specs.declared.Timing.{Timing}
+use Rattle.effects.specs.Judging.{Judge, judgedIn}
+use Rattle.effects.specs.Effects.{Figures, figures, afterEffect, offset, afterEffects, sound}
+use Rattle.effects.specs.Timings.{timingOf, alikeOf}
+use Rattle.effects.proofs.Laws.{effects-more, offset-one, offset-more, offset-most}
+use Rattle.effects.proofs.LeadingLaws.{Leads}
+use Rattle.effects.proofs.TimingLaws.{length-most, timing-eight, alike-some, units-same}
 use Rattle.study.specs.Placing.{placeFault}
 use Rattle.study.specs.Spans.{Next, lengthOf, afterFirst, Records}
 use Rattle.study.specs.Following.{coreAfter}
 use Rattle.study.proofs.RecordLaws.{without-fault}
-use Rattle.study.proofs.SpanLaws.{entering, effect-length, rest-is, read-alone, one-read, records-alone, records-more, standing-next, reached-next}
+use Rattle.study.proofs.SpanLaws.{IsEffect, entering, effect-length, rest-is, read-alone, one-read, records-alone, records-more, standing-next, reached-next}
 
 -- an effect in its place
 place-zero : (c : Core) → (c .counts .records ≡ 0 → ⊥) → 0 < c .branch .left → c .counts .records < mostRecords → 0 ≡ placeFault c 6
@@ -64,17 +71,65 @@ within-bounds c n e h = go (decLe 2 n)
 no-false : false ≡ true → ⊥
 no-false e = subst T (sym e) tt
 
-sound-parts : (targets kind next : ℕ) (p : List ℕ) → sound targets kind next p ≡ true → (getD p 0 0 ≡ 6) × (effectFault targets kind next (field p 1 2) (field p 3 4) (field p 7 2) ≡ 0)
+sound-parts : (k targets kind next : ℕ) (p : List ℕ) → sound k targets kind next p ≡ true → (getD p 0 0 ≡ k) × (effectFault targets kind next (field p 1 2) (field p 3 4) (field p 7 2) ≡ 0)
 unfolding sound
-sound-parts targets kind next p h =
+sound-parts k targets kind next p h =
     let a = eq-first _ _ _ _ _ h no-false in
     (a .0, eq-first _ _ _ _ _ (a .1) no-false .0)
 
 -- an effect that is not
-pub unsound-fault : (targets kind next : ℕ) (p : List ℕ) → sound targets kind next p ≡ false → getD p 0 0 ≡ 6
+unsound-fault : (k targets kind next : ℕ) (p : List ℕ) → sound k targets kind next p ≡ false → getD p 0 0 ≡ k
     → effectFault targets kind next (field p 1 2) (field p 3 4) (field p 7 2) ≡ 0 → ⊥
 unfolding sound
-unsound-fault targets kind next p h k z = no-false (sym h ∙ sym (eq-case _ _ _ _ k (eq-case _ _ _ _ z refl)))
+unsound-fault k targets kind next p h e z = no-false (sym h ∙ sym (eq-case _ _ _ _ e (eq-case _ _ _ _ z refl)))
+
+-- ---- effects timed alike
+
+-- an effect has bytes
+known-length : (p : List ℕ) → IsEffect p → 0 < bodyLength (getD p 0 0)
+unfolding bodyLength ifEq
+known-length p (inl h) = rw h (omega arith)
+known-length p (inr h) = rw h (omega arith)
+
+-- the kind of the first
+timing-kind : (l : List ℕ) → IsEffect l → timingOf l .kind ≡ getD l 0 0
+unfolding timingOf ifEq
+timing-kind l (inl h) = rw h refl
+timing-kind l (inr h) = rw h refl
+
+-- an effect timed as the first is: its unit is one, and has the clock of the first
+pub record Alike (l p : List ℕ) : Type 0 where
+  pub effect : IsEffect p
+  pub unit : unitOf p ≤ 1
+  pub clocked : clockOf (unitOf p) ≡ timingOf l .clock
+  pub long : lengthOf p ≡ timingOf l .length
+
+alike-six : (l p : List ℕ) → getD l 0 0 ≡ 6 → getD p 0 0 ≡ 6 → Alike l p
+unfolding unitOf timingOf ifEq
+alike-six l p h e =
+    record {
+      effect = inl e;
+      unit = rw e (omega arith);
+      clocked = rw (h, e) refl;
+      long = effect-length p (inl e) ∙ rw (h, e) refl;
+    }
+
+alike-eight : (l p : List ℕ) → getD l 0 0 ≡ 8 → getD p 0 0 ≡ 8 → (field l 9 1 ≤ 1) × (field p 9 1 ≡ field l 9 1) → Alike l p
+unfolding unitOf timingOf ifEq
+alike-eight l p h e u =
+    record {
+      effect = inr e;
+      unit = rw e (omega (arith, u .0, u .1));
+      clocked = rw (h, e, u .1) refl;
+      long = effect-length p (inr e) ∙ rw (h, e) refl;
+    }
+
+-- the effects that are counted with the first
+pub alike-at : (l : List ℕ) (n i : ℕ) → IsEffect l → i < alikeOf l n → getD (drop (offset (timingOf l .length) i) l) 0 0 ≡ timingOf l .kind → Alike l (drop (offset (timingOf l .length) i) l)
+alike-at l n i (inl h) w e = alike-six l _ h (e ∙ timing-kind l (inl h) ∙ h)
+alike-at l n i (inr h) w e =
+    let a : timingOf l .length ≡ 10 = ap (λ (t : Timing). t .length) (sym (timing-eight l h)) in
+    alike-eight l _ h (e ∙ timing-kind l (inr h) ∙ h) (rw a (units-same l n i h w))
 
 -- ---- one effect
 
@@ -82,34 +137,28 @@ unsound-fault targets kind next p h k z = no-false (sym h ∙ sym (eq-case _ _ _
 abbrev stepped : Core → ℕ → Bool → Core
 stepped c t j = core (taken (c .reading) 0) (oneRecord (c .counts)) (effectBranch (c .branch) t) (effectTally (c .tally) j)
 
-effect-read : (c : Core) (q k s m f p : List ℕ) (x u : ℕ) → getD p 0 0 ≡ 6 → 0 ≡ placeFault c 6
+own-zero : (c : Core) (p : List ℕ) → IsEffect p → unitOf p ≤ 1 → effectFault (c .counts .targets) (c .branch .kind) (c .branch .next) (field p 1 2) (field p 3 4) (field p 7 2) ≡ 0
+    → unitFault (effectOf p) (effectFault (c .counts .targets) (c .branch .kind) (c .branch .next) (field p 1 2) (field p 3 4) (field p 7 2)) ≡ 0
+own-zero c p h v e = effect-unit p _ h ∙ sym (ge-case _ _ _ _ v (sym e))
+
+effect-read : (c : Core) (q k s m f p : List ℕ) (time : Clock) (x u : ℕ) → IsEffect p → unitOf p ≤ 1 → clockOf (unitOf p) ≡ time → 0 ≡ placeFault c 6
     → effectFault (c .counts .targets) (c .branch .kind) (c .branch .next) (field p 1 2) (field p 3 4) (field p 7 2) ≡ 0
-    → state (stepped c (field p 1 2) (judgedIn (effectOn seconds) f (c .branch .kind) p .judged)) q k
-    (afterEffect (effectOn seconds) (c .branch) (figures x u s m f) p .sums) (afterEffect (effectOn seconds) (c .branch) (figures x u s m f) p .margins) (afterEffect (effectOn seconds) (c .branch) (figures x u s m f) p .facts)
+    → state (stepped c (field p 1 2) (judgedIn (effectOn time) f (c .branch .kind) p .judged)) q k
+    (afterEffect (effectOn time) (c .branch) (figures x u s m f) p .sums) (afterEffect (effectOn time) (c .branch) (figures x u s m f) p .margins) (afterEffect (effectOn time) (c .branch) (figures x u s m f) p .facts)
     ≡ recordRead (state c q k s m f) (decode p)
 unfolding accepted effectState ownFault afterEffect
-effect-read c q k s m f p x u h z e =
-    rw (decode-effect p h) (without-fault (state c q k s m f) (effectRec (inSeconds (field p 1 2) (field p 3 4) (field p 7 2))) 0 0 z refl (sym e) refl refl)
+effect-read c q k s m f p time x u h v y z e =
+    let w : time ≡ clock (effectOf p) = sym y ∙ sym (effect-clock p h) in
+    let o = own-zero c p h v e in
+    rw (decode-effect p h, w, ← effect-target p, ← effect-intensity p, ← effect-duration p)
+    (without-fault (state c q k s m f) (effectRec (effectOf p)) 0 0 z refl (sym (rw (← effect-target p, ← effect-intensity p, ← effect-duration p) at o)) refl refl)
 
 -- after the first effect, and after one more
-first-core : (c : Core) (t : ℕ) (j : Bool) → stepped c t j ≡ coreAfter c 1 (t + 1) (upTo most32 (c .tally .unjudged) (pick j 0 1))
-unfolding taken oneRecord effectBranch effectTally ifEq
-first-core c t j = let a : c .reading .place + (1 - 1) * 9 ≡ c .reading .place = omega arith in rw a refl
-
--- numbers after one effect more
-module _ (n : ℕ) (h : 0 < n) where
-  not-first : n + 1 ≡ 1 → ⊥
-  not-first z = omega arith
-
-  place-next : (x : ℕ) → x + (n - 1) * 9 + 9 ≡ x + (n + 1 - 1) * 9
-  place-next x = omega arith
-
-  start-next : (x : ℕ) → x + (n - 1) * 9 ≡ x + (n + 1 - 2) * 9
-  start-next x = omega arith
-
--- a place after n effects is counted, with one more, where that of the end of k bytes is
-between-room : (x n k : ℕ) → 0 < n → (n + 1) * 9 + 7 ≤ k → x + (k - 9) ≤ most64 → x + (n - 1) * 9 + 13 ≤ most64
-between-room x n k w v h = omega arith
+first-core : (c : Core) (w t : ℕ) (j : Bool) → c .reading .place ≡ c .reading .start + w → stepped c t j ≡ coreAfter c 1 (offset w 1) (t + 1) (upTo most32 (c .tally .unjudged) (pick j 0 1))
+unfolding taken oneRecord effectBranch effectTally
+first-core c w t j e =
+    let a : c .reading .place ≡ c .reading .start + offset w 1 = omega (arith, e, offset-one w) in
+    rw a refl
 
 records-next : (x n : ℕ) → upTo most32 (upTo most32 x n) 1 ≡ upTo most32 x (n + 1)
 records-next x n = omega arith
@@ -117,12 +166,13 @@ records-next x n = omega arith
 left-next : (x n : ℕ) → x - n - 1 ≡ x - (n + 1)
 left-next x n = omega arith
 
-next-core : (c : Core) (n x u t : ℕ) (j : Bool) → 0 < n
-    → stepped (entering (coreAfter c n x u) 9) t j ≡ coreAfter c (n + 1) (t + 1) (upTo most32 u (pick j 0 1))
+place-next : (x a w : ℕ) → x + a + w ≡ x + (a + w)
+place-next x a w = omega arith
+
+next-core : (c : Core) (a w n x u t : ℕ) (j : Bool)
+    → stepped (entering (coreAfter c n a x u) w) t j ≡ coreAfter c (n + 1) (a + w) (t + 1) (upTo most32 u (pick j 0 1))
 unfolding taken oneRecord effectBranch effectTally
-next-core c n x u t j h =
-    let d : c .reading .place + (n - 1) * 9 ≡ ifEq (n + 1) 1 (c .reading .start) (c .reading .place + (n + 1 - 2) * 9) = ne-case _ _ _ _ (not-first n h) (start-next n h _) in
-    rw (place-next n h (c .reading .place), ← d, records-next (c .counts .records) n, left-next (c .branch .left) n) refl
+next-core c a w n x u t j = rw (place-next (c .reading .start) a w, records-next (c .counts .records) n, left-next (c .branch .left) n) refl
 
 -- ---- the first effects of some bytes
 
@@ -130,31 +180,59 @@ module _ (c : Core) (s m f l : List ℕ) where
   abbrev pub begin : Figures
   begin = figures (c .branch .next) (c .tally .unjudged) s m f
 
-  abbrev after : ℕ → Figures
-  after n = afterEffects (effectOn seconds) (c .branch) begin l n
+  abbrev width : ℕ
+  width = timingOf l .length
 
-  -- n effects that may be taken: there are bytes to read them in, whose places are counted, order and records allow them, and none has a fault of
-  -- its own
+  abbrev judge : Judge
+  judge = effectOn (timingOf l .clock)
+
+  abbrev after : ℕ → Figures
+  after n = afterEffects judge (c .branch) begin width l n
+
+  -- whether the effect of a number has no fault but for its unit
+  abbrev pub soundAt : ℕ → Bool
+  soundAt i = sound (timingOf l .kind) (c .counts .targets) (c .branch .kind) (after i .next) (drop (offset width i) l)
+
+  -- where none is taken, the first has a fault
+  pub unsound-first : (n : ℕ) → IsEffect l → 0 < n → Leads soundAt (alikeOf l n) 0
+      → ifLt 1 (unitOf l) 3 (effectFault (c .counts .targets) (c .branch .kind) (c .branch .next) (field l 1 2) (field l 3 4) (field l 7 2)) ≡ 0 → ⊥
+  unfolding afterEffects offset
+  unsound-first n first w r e =
+      lt-elim e (λ h q. omega (arith, q)) (λ h q. unsound-fault _ _ _ _ l (r .stops (alike-some l n h w)) (sym (timing-kind l first)) q)
+
+  -- n effects that may be taken: the first has been entered, there are bytes to read them in, whose places are counted, order and records allow them, they are timed
+  -- alike, and none has a fault
   pub record Free (n : ℕ) : Type 0 where
     pub placed : 0 ≡ placeFault c 6
-    pub room : n * 9 + 7 ≤ length l
-    pub counts : c .reading .place + (length l - 9) ≤ most64
+    pub entered : c .reading .place ≡ c .reading .start + lengthOf l
+    pub room : n * 10 + 6 ≤ length l
+    pub counts : c .reading .start + length l ≤ most64
     pub more : 1 < n → (n ≤ c .branch .left) × (c .counts .records + n ≤ mostRecords)
-    pub sounds : (i : ℕ) → i < n → sound (c .counts .targets) (c .branch .kind) (after i .next) (drop (i * 9) l) ≡ true
+    pub few : ℕ
+    pub alike : n ≤ alikeOf l few
+    pub sounds : (i : ℕ) → i < n → soundAt i ≡ true
+    pub first : IsEffect l
 
   -- what they leave
   abbrev Left : ℕ → Type 0
   Left n =
-      Records l (n * 9)
-      × ((q k : List ℕ) → state (coreAfter c n (after n .next) (after n .unjudged)) (replicate 16 0) k (after n .sums) (after n .margins) (after n .facts) ≡ afterFirst (state c q k s m f) l (n * 9))
+      Records l (offset width n)
+      × ((q k : List ℕ) → state (coreAfter c n (offset width n) (after n .next) (after n .unjudged)) (replicate 16 0) k (after n .sums) (after n .margins) (after n .facts) ≡ afterFirst (state c q k s m f) l (offset width n))
+
+  -- one of them
+  one-at : (n i : ℕ) → Free n → i < n → (effectFault (c .counts .targets) (c .branch .kind) (after i .next) (field (drop (offset width i) l) 1 2) (field (drop (offset width i) l) 3 4) (field (drop (offset width i) l) 7 2) ≡ 0) × Alike l (drop (offset width i) l)
+  one-at n i h w =
+      let e = sound-parts _ _ _ _ _ (h .sounds i w) in
+      (e .1, alike-at l (h .few) i (h .first) (omega (arith, h .alike)) (e .0))
 
   left-first : Free 1 → Left 1
-  unfolding afterEffects afterEffect
+  unfolding afterEffects afterEffect offset
   left-first h =
-      let e = sound-parts _ _ _ _ (h .sounds 0 (omega arith)) in
-      let n : 9 ≡ lengthOf l = sym (effect-length l (e .0)) in (
-        records-alone l 9 n (omega (arith, h .room)),
-        λ q k. read-alone _ _ q k _ _ _ l 9 n (rw (← first-core c (field l 1 2) (judgedIn (effectOn seconds) f (c .branch .kind) l .judged)) (effect-read c q k s m f l (c .branch .next) (c .tally .unjudged) (e .0) (h .placed) (e .1))),
+      let e = one-at 1 0 h (omega arith) in
+      let n : offset width 1 ≡ lengthOf l = offset-one width ∙ sym (effect-length l (h .first)) in
+      let b : c .reading .place ≡ c .reading .start + width = h .entered ∙ ap (λ (x : ℕ). c .reading .start + x) (effect-length l (h .first)) in (
+        records-alone l (offset width 1) n (omega (arith, h .room)),
+        λ q k. read-alone _ _ q k _ _ _ l (offset width 1) n (rw (← first-core c width (field l 1 2) (judgedIn judge f (c .branch .kind) l .judged) b) (effect-read c q k s m f l (timingOf l .clock) (c .branch .next) (c .tally .unjudged) (h .first) (e .1 .unit) (e .1 .clocked) (h .placed) (e .0))),
       )
 
   -- one effect more
@@ -162,27 +240,28 @@ module _ (c : Core) (s m f l : List ℕ) where
   unfolding afterEffect rowAfter
   left-more n w h (r, e) =
       let g : Figures = after n in
-      let d : Core = coreAfter c n (g .next) (g .unjudged) in
-      let p : List ℕ = drop (n * 9) l in
-      let o = sound-parts _ _ _ p (h .sounds n (omega arith)) in
-      let z = effect-length p (o .0) in
+      let d : Core = coreAfter c n (offset width n) (g .next) (g .unjudged) in
+      let p : List ℕ = drop (offset width n) l in
+      let o = one-at (n + 1) n h (omega arith) in
+      let z : lengthOf p ≡ width = o .1 .long in
       let b = h .more (omega arith) in
+      let t = offset-most width n (length-most l) in
       let y : Next (d .reading) p =
       record {
-        between = record { reads = refl; none = refl; room = between-room (c .reading .place) n (length l) w (h .room) (h .counts) };
-        known = omega (arith, z);
-        room = omega (arith, length-drop (n * 9) l, h .room);
+        between = record { reads = refl; none = refl; room = omega (arith, t, h .room, h .counts) };
+        known = omega (arith, known-length p (o .1 .effect));
+        room = omega (arith, length-drop (offset width n) l, t, h .room);
       } in
-      let a : n * 9 + lengthOf p ≡ (n + 1) * 9 = omega (arith, z) in
-      let v : 0 ≡ placeFault (entering d 9) 6 = place-zero (entering d 9) (omega arith) (omega (arith, b .0)) (omega (arith, b .1)) in
-      let x : afterEffect (effectOn seconds) (c .branch) g p ≡ after (n + 1) = effects-more (effectOn seconds) (c .branch) begin g l n refl in (
-        rw a at (records-more l (n * 9) _ (standing-next (d .reading) l (n * 9) r y) (records-alone p _ refl (y .room))),
+      let a : offset width n + lengthOf p ≡ offset width (n + 1) = rw z (offset-more width n) in
+      let v : 0 ≡ placeFault (entering d width) 6 = place-zero (entering d width) (omega arith) (omega (arith, b .0)) (omega (arith, b .1)) in
+      let x : afterEffect judge (c .branch) g p ≡ after (n + 1) = effects-more judge (c .branch) begin g width l n refl in (
+        rw a at (records-more l (offset width n) _ (standing-next (d .reading) l (offset width n) r y) (records-alone p _ refl (y .room))),
         λ q k.
-            let u = reached-next (state c q k s m f) d q k (g .sums) (g .margins) (g .facts) l (n * 9) r y (e q k) in
+            let u = reached-next (state c q k s m f) d q k (g .sums) (g .margins) (g .facts) l (offset width n) r y (e q k) in
             rw (← x, ← a)
-            (one-read _ _ _ q k _ _ _ k _ _ _ l (n * 9) u
-            (rw (z, rest-is l (n * 9), ← next-core c n (g .next) (g .unjudged) (field p 1 2) (judgedIn (effectOn seconds) (g .facts) (c .branch .kind) p .judged) w)
-            (effect-read (entering d 9) q k (g .sums) (g .margins) (g .facts) p (g .next) (g .unjudged) (o .0) v (o .1)))),
+            (one-read _ _ _ q k _ _ _ k _ _ _ l (offset width n) u
+            (rw (z, rest-is l (offset width n), ← next-core c (offset width n) width n (g .next) (g .unjudged) (field p 1 2) (judgedIn judge (g .facts) (c .branch .kind) p .judged))
+            (effect-read (entering d width) q k (g .sums) (g .margins) (g .facts) p (timingOf l .clock) (g .next) (g .unjudged) (o .1 .effect) (o .1 .unit) (o .1 .clocked) v (o .0)))),
       )
 
   pub effects-read : (k n : ℕ) → n ≡ k + 1 → Free n → Left n
@@ -195,13 +274,17 @@ module _ (c : Core) (s m f l : List ℕ) where
       (effects-read k (k + 1) refl
       record {
         placed = g .placed;
+        entered = g .entered;
         room = omega (arith, g .room);
         counts = g .counts;
         more = λ w. let b = g .more (omega arith) in (omega (arith, b .0), omega (arith, b .1));
+        few = g .few;
+        alike = omega (arith, g .alike);
         sounds = λ i w. g .sounds i (omega arith);
+        first = g .first;
       }))
 
 -- whatever the totals of the kinds are
-pub with-kinds : {d : Core} {k s m f : List ℕ} {r : State} (x : List ℕ) (c : Core) (n u v : ℕ) → d ≡ coreAfter c n u v
-    → state (coreAfter (withKinds c x) n u v) (replicate 16 0) k s m f ≡ r → state (withKinds d x) (replicate 16 0) k s m f ≡ r
-with-kinds x c n u v e h = rw e h
+pub with-kinds : {d : Core} {k s m f : List ℕ} {r : State} (x : List ℕ) (c : Core) (n a u v : ℕ) → d ≡ coreAfter c n a u v
+    → state (coreAfter (withKinds c x) n a u v) (replicate 16 0) k s m f ≡ r → state (withKinds d x) (replicate 16 0) k s m f ≡ r
+with-kinds x c n a u v e h = rw e h

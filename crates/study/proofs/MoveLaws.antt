@@ -80,9 +80,9 @@ module _ (f : Reading) (n : ℕ) where
   unfoldable movedIn : State → State
   movedIn s = withReading s (moved f n (s .core .reading))
 
-  taken-moved : (h : Reading) (phase : ℕ) → (phase ≡ 2 → ⊥) → reading phase 0 (shifted f n (h .place)) (shifted f n (h .start)) 0 0 ≡ moved f n (taken h phase)
+  taken-moved : (h : Reading) (phase : ℕ) → (phase ≡ 2 → ⊥) → reading phase 0 (shifted f n (h .place)) (shifted f n (h .place)) 0 0 ≡ moved f n (taken h phase)
   unfolding moved taken
-  taken-moved h phase z = ap (λ (x : ℕ). reading phase 0 (shifted f n (h .place)) (shifted f n (h .start)) 0 x) (ne-case _ _ _ _ z refl)
+  taken-moved h phase z = ap (λ (x : ℕ). reading phase 0 (shifted f n (h .place)) (shifted f n (h .place)) 0 x) (ne-case _ _ _ _ z refl)
 
   refused-moved : (h : Reading) (k : ℕ) → reading 2 0 (shifted f n (h .place)) (shifted f n (h .start)) k (shifted f n (h .start)) ≡ moved f n (refusedWith h k)
   unfolding moved refusedWith
@@ -90,7 +90,7 @@ module _ (f : Reading) (n : ℕ) where
 
   -- a record is taken or refused, wherever it stands; of the reading before it the two places alone are looked at
   record-case : (s t : State) (phase c : ℕ) → (phase ≡ 2 → ⊥)
-      → ifEq c 0 (withReading t (reading phase 0 (shifted f n (s .core .reading .place)) (shifted f n (s .core .reading .start)) 0 0))
+      → ifEq c 0 (withReading t (reading phase 0 (shifted f n (s .core .reading .place)) (shifted f n (s .core .reading .place)) 0 0))
       (withReading s (reading 2 0 (shifted f n (s .core .reading .place)) (shifted f n (s .core .reading .start)) c (shifted f n (s .core .reading .start))))
       ≡ movedIn (ifEq c 0 (withReading t (taken (s .core .reading) phase)) (withReading s (refusedWith (s .core .reading) c)))
   unfolding movedIn withReading

@@ -10,7 +10,7 @@ use lib.ListN.{length, getD, take, drop, replicate, length-drop, take-append-dro
 use lib.Seq.{take-all, drop-cons, drop-drop, getD-drop, length-take-le, take-add, take-take}
 use lib.Dec.{T}
 use Rattle.numeric.specs.Choice.{pick, ifEq}
-use Rattle.numeric.proofs.ChoiceLaws.{picked-first, picked-second, eq-both, le-both, eq-second}
+use Rattle.numeric.proofs.ChoiceLaws.{picked-first, picked-second, ne-case, ge-case, eq-both, le-both, eq-second, lt-second}
 use Rattle.state.specs.declared.Core.{Core}
 use Rattle.state.specs.declared.Reading.{Reading}
 use Rattle.model.specs.Verdict.{bodyLength, decode}
@@ -19,7 +19,8 @@ use Rattle.model.proofs.Accepts.{WholeBytes}
 use Rattle.model.proofs.ReadLaws.{Ready, partial, read-append, read-whole, cleared-same}
 use Rattle.model.proofs.CodecLaws.{body-most, decode-prefix, pending-decode}
 use Rattle.reading.proofs.EnterLaws.{store-wide}
-use Rattle.study.specs.Spans.{lengthOf, Next, afterFirst, Records}
+use Rattle.effects.specs.Timings.{timingOf}
+use Rattle.study.specs.Spans.{ofScenario, lengthOf, Next, afterFirst, Records}
 
 -- ---- a record at once
 
@@ -116,10 +117,29 @@ rest-is l i = take-all (length l - i) (drop i l) (let d = length-drop i l in ome
 pub length-at : {j k : ℕ} → j ≡ k → bodyLength j + 1 ≡ bodyLength k + 1
 length-at e = ap (λ (x : ℕ). bodyLength x + 1) e
 
--- the kinds of a scenario's records are known
-pub scenario-known : (k : ℕ) → 3 ≤ k → k ≤ 6 → 0 < bodyLength k
+no-false : false ≡ true → ⊥
+no-false e = subst T (sym e) tt
+
+-- the kinds of a scenario's records: from 3 to 8, but not 7
+pub scenario-kinds : (k : ℕ) → ofScenario k ≡ true → (3 ≤ k) × (k ≤ 8) × (k ≡ 7 → ⊥)
+unfolding ofScenario
+scenario-kinds k e =
+    let a = lt-second _ _ _ _ _ e no-false in
+    let b = lt-second _ _ _ _ _ (a .1) no-false in
+    let c = eq-second _ _ _ _ _ (b .1) no-false in
+    (a .0, b .0, c .0)
+
+pub other-kinds : (k n : ℕ) → ofScenario k ≡ false → 3 ≤ n → n ≤ 8 → (n ≡ 7 → ⊥) → k ≡ n → ⊥
+unfolding ofScenario
+other-kinds k n e l h z q =
+    let t : true ≡ ofScenario k = ge-case _ _ _ _ (omega (arith, l, q)) (ge-case _ _ _ _ (omega (arith, h, q)) (ne-case _ _ _ _ (λ y. z (sym q ∙ y)) refl)) in
+    subst T (t ∙ e) tt
+
+-- they are known
+pub scenario-known : (k : ℕ) → ofScenario k ≡ true → 0 < bodyLength k
 unfolding bodyLength
-scenario-known k h w =
+scenario-known k h =
+    let w = scenario-kinds k h in
     let z : bodyLength k ≡ 0 → ⊥ =
     λ e.
     let a = eq-second _ _ _ _ _ e (λ q. omega arith) in
@@ -128,13 +148,20 @@ scenario-known k h w =
     let branching = eq-second _ _ _ _ _ (leak .1) (λ q. omega arith) in
     let outcome = eq-second _ _ _ _ _ (branching .1) (λ q. omega arith) in
     let effect = eq-second _ _ _ _ _ (outcome .1) (λ q. omega arith) in
-    omega (arith, leak .0, branching .0, outcome .0, effect .0) in
+    let closing = eq-second _ _ _ _ _ (effect .1) (λ q. omega arith) in
+    let timed = eq-second _ _ _ _ _ (closing .1) (λ q. omega arith) in
+    omega (arith, w .0, w .1, leak .0, branching .0, outcome .0, effect .0, closing .0, timed .0) in
     omega (arith, z)
 
--- an effect has nine bytes
-pub effect-length : (l : List ℕ) → getD l 0 0 ≡ 6 → lengthOf l ≡ 9
-unfolding bodyLength ifEq
-effect-length l h = rw h refl
+-- the bytes begin with an effect of either kind
+abbrev pub IsEffect : List ℕ → Type 0
+IsEffect l = (getD l 0 0 ≡ 6) ⊎ (getD l 0 0 ≡ 8)
+
+-- whose length is that of the effects timed as it is
+pub effect-length : (l : List ℕ) → IsEffect l → lengthOf l ≡ timingOf l .length
+unfolding bodyLength timingOf ifEq
+effect-length l (inl h) = rw h refl
+effect-length l (inr h) = rw h refl
 
 -- ---- the records at the front of some bytes
 

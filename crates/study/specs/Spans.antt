@@ -1,10 +1,13 @@
 -- For the proofs. What a piece's bytes are read in: whole records, or single bytes. Assumes nothing.
 use mathlib.Core.Path.{_≡_}
+use mathlib.Core.Bool.{Bool, true, false}
 use mathlib.Core.Logic.{_⊎_}
 use mathlib.Core.List.{List}
 use Prim.Native.Nat.{ℕ, _+_, _-_, _<_, _≤_}
 use lib.ListN.{length, getD, take, drop}
+use Rattle.numeric.specs.Choice.{ifEq, ifLt}
 use Rattle.state.specs.declared.Reading.{Reading}
+use Rattle.model.specs.Format.{leakKind, closingKind, timedKind}
 use Rattle.model.specs.Verdict.{bodyLength, decode}
 use Rattle.model.specs.Machine.{State, most64, openPhase, recordRead, cleared, readAll}
 
@@ -13,6 +16,10 @@ pub record Between (h : Reading) : Type 0 where
   pub reads : h .phase ≡ openPhase
   pub none : h .have ≡ 0
   pub room : h .place + 13 ≤ most64
+
+-- the kinds of a scenario's records: leaks, branchings, outcomes and effects
+unfoldable pub ofScenario : ℕ → Bool
+ofScenario k = ifLt k leakKind false (ifLt timedKind k false (ifEq k closingKind false true))
 
 -- the length of the record that some bytes begin with, kind byte included
 abbrev pub lengthOf : List ℕ → ℕ

@@ -1,14 +1,15 @@
 // Effects that follow one another, read at once.
 ghost use mathlib.Core.Path.{_≡_};
+ghost use mathlib.Core.Logic.{_⊎_};
 ghost use mathlib.Core.List.{List};
-ghost use Prim.Native.Nat.{ℕ, _+_, _-_, _*_, _<_, _≤_};
+ghost use Prim.Native.Nat.{ℕ, _+_, _-_, _<_, _≤_};
 ghost use lib.ListN.{length, getD, replicate};
 ghost use Rattle.model.specs.Bounds.{mostRecords};
-ghost use Rattle.model.specs.Format.{effectKind};
+ghost use Rattle.model.specs.Format.{effectKind, timedKind};
 ghost use Rattle.model.specs.Machine.{most64, state};
 ghost use Rattle.counting.specs.Kinds.{withKinds};
 ghost use Rattle.study.specs.Following.{readingAfter, coreAfter};
-ghost use Rattle.study.specs.Spans.{afterFirst, Records};
+ghost use Rattle.study.specs.Spans.{lengthOf, afterFirst, Records};
 use crate::Study;
 use crate::bounds::place_fault;
 use crate::records::Run;
@@ -49,15 +50,15 @@ fn still_left(left: u16, count: usize) -> u16
     ((left as usize) - count) as u16
 }
 
-fn reading_after(h: Reading, count: usize) -> Reading
-    requires { ⌜ (0 < count) × (h .place + (count - 1) * 9 ≤ most64) ⌝ }
-    ensures { λ r. ⌜ r ≡ readingAfter h count ⌝ }
+// The reading after effects of so many bytes.
+fn reading_after(h: Reading, at: usize) -> Reading
+    requires { ⌜ h .start + at ≤ most64 ⌝ }
+    ensures { λ r. ⌜ r ≡ readingAfter h at ⌝ }
 {
-    let place = h.place + ((count - 1) * 9) as u64;
-    let start = if count == 1 { h.start } else { place - 9 };
+    let place = h.start + (at as u64);
     Reading {
         place: place,
-        start: start,
+        start: place,
         at: 0,
         phase: phase::OPEN,
         have: 0,
@@ -65,16 +66,16 @@ fn reading_after(h: Reading, count: usize) -> Reading
     }
 }
 
-// All but the arrays after some effects.
-fn core_after(c: Core, count: usize, next: u32, unjudged: u32) -> Core
-    requires { ⌜ (0 < count) × (c .reading .place + (count - 1) * 9 ≤ most64) ⌝ }
+// All but the arrays after some effects, of so many bytes.
+fn core_after(c: Core, count: usize, at: usize, next: u32, unjudged: u32) -> Core
+    requires { ⌜ c .reading .start + at ≤ most64 ⌝ }
     requires { ⌜ (count ≤ c .branch .left) × (c .counts .records + count ≤ mostRecords) ⌝ }
-    ensures { λ r. ⌜ r ≡ coreAfter c count next unjudged ⌝ }
+    ensures { λ r. ⌜ r ≡ coreAfter c count at next unjudged ⌝ }
 {
     let k = c.counts;
     let b = c.branch;
     let y = c.tally;
-    let h = reading_after(c.reading, count);
+    let h = reading_after(c.reading, at);
     let records = k.records + (count as u32);
     let left = still_left(b.left, count);
     Core {
@@ -108,7 +109,7 @@ fn core_after(c: Core, count: usize, next: u32, unjudged: u32) -> Core
     }
 }
 
-// The effect that the bytes begin with, which has been entered, and the effects that follow it; all the bytes' places are counted. The totals of the
+// The effect that the bytes begin with, which has been entered, and the effects that follow it and are timed alike; all the bytes' places are counted. The totals of the
 // kinds stay, whatever they are.
 pub(crate) fn read_effects(
     c: Core,
@@ -117,16 +118,18 @@ pub(crate) fn read_effects(
     margins: &mut [u32; 256],
     facts: &mut [u64; 256],
 ) -> Run
-    requires { ⌜ (16 ≤ length (now bytes)) × (getD (now bytes) 0 0 ≡ effectKind) ⌝ }
-    requires { ⌜ c .reading .place + (length (now bytes) - 9) ≤ most64 ⌝ }
+    requires { ⌜ (16 ≤ length (now bytes)) × ((getD (now bytes) 0 0 ≡ effectKind) ⊎ (getD (now bytes) 0 0 ≡ timedKind)) ⌝ }
+    requires { ⌜ (c .reading .have ≡ lengthOf (now bytes)) × (c .reading .place ≡ c .reading .start + lengthOf (now bytes)) × (c .reading .start + length (now bytes) ≤ most64) ⌝ }
     ensures { λ r. ⌜ Records (now (bytes .entry)) (r .at) ⌝ }
     ensures { λ r. ⌜ ((l q k : List ℕ) → state (withKinds (r .core) l) (replicate 16 0) k (now (sums .exit)) (now (margins .exit)) (now (facts .exit)) ≡ afterFirst (state (withKinds c l) q k (now (sums .entry)) (now (margins .entry)) (now (facts .entry))) (now (bytes .entry)) (r .at)) ⌝ }
 {
+    let h = c.reading;
+    let first = h.have as usize;
     let misplaced = place_fault(c, record::EFFECT);
     if misplaced != 0 {
         return Run {
             core: refused(c, misplaced),
-            at: 9,
+            at: first,
         };
     }
     let k = c.counts;
@@ -138,12 +141,12 @@ pub(crate) fn read_effects(
         let own = faults::own_effect(k.targets, b.kind, b.next, bytes);
         return Run {
             core: refused(c, own),
-            at: 9,
+            at: first,
         };
     }
-    let after = core_after(c, run.count, run.next, run.unjudged);
+    let after = core_after(c, run.count, run.at, run.next, run.unjudged);
     Run {
         core: after,
-        at: run.count * 9,
+        at: run.at,
     }
 }

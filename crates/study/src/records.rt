@@ -1,14 +1,15 @@
 // A record that has been entered is read: taken, or refused at its first byte.
 ghost use mathlib.Core.Path.{_≡_};
+ghost use mathlib.Core.Bool.{false};
 ghost use mathlib.Core.List.{List};
 ghost use Prim.Native.Nat.{ℕ, _+_, _<_, _≤_};
 ghost use lib.ListN.{getD};
 ghost use Rattle.model.specs.Content.{given, described};
-ghost use Rattle.model.specs.Format.{leakKind, effectKind, openingRec, targetRec, leakRec, branchingRec, outcomeRec, closingRec};
+ghost use Rattle.model.specs.Format.{openingRec, targetRec, leakRec, branchingRec, outcomeRec, closingRec};
 ghost use Rattle.model.specs.Verdict.{bodyLength, decode, field, factsAt};
 ghost use Rattle.model.specs.Machine.{state, core, refusedWith, recordRead};
 ghost use Rattle.counting.specs.Kinds.{withKinds};
-ghost use Rattle.study.specs.Spans.{lengthOf};
+ghost use Rattle.study.specs.Spans.{ofScenario, lengthOf};
 use crate::bounds::leak_fault;
 use crate::bounds::outcome_fault;
 use crate::bounds::own_branching;
@@ -134,7 +135,7 @@ fn ended(c: Core, kind: u8) -> Run
 
 // An opening, a target or a closing, and its length. The totals of the kinds stay, whatever they are.
 pub(crate) fn read_other(c: Core, p: &[u8], facts: &mut [u64; 256]) -> Run
-    requires { ⌜ (leakKind ≤ getD (now p) 0 0 → effectKind < getD (now p) 0 0) ⌝ }
+    requires { ⌜ ofScenario (getD (now p) 0 0) ≡ false ⌝ }
     ensures { λ r. ⌜ r .at ≡ lengthOf (now (p .entry)) ⌝ }
     ensures { λ r. ⌜ ((l q k s m : List ℕ) → state (withKinds (r .core) l) q k s m (now (facts .exit)) ≡ recordRead (state (withKinds c l) q k s m (now (facts .entry))) (decode (now (p .entry)))) ⌝ }
 {

@@ -5,10 +5,11 @@ ghost use mathlib.Core.Bool.{true};
 ghost use mathlib.Core.List.{List};
 ghost use Prim.Native.Nat.{ℕ, _+_, _≤_};
 ghost use lib.ListN.{length, getD, replicate};
-ghost use Rattle.model.specs.Format.{leakKind, effectKind};
+ghost use Rattle.numeric.specs.Choice.{ifEq};
+ghost use Rattle.model.specs.Format.{timedKind};
 ghost use Rattle.model.specs.Machine.{most64, openPhase, core, reading, state};
 ghost use Rattle.counting.specs.Kinds.{withKinds};
-ghost use Rattle.study.specs.Spans.{lengthOf, afterFirst, Records};
+ghost use Rattle.study.specs.Spans.{ofScenario, lengthOf, afterFirst, Records};
 use crate::following::read_effects;
 use crate::records::Run;
 use crate::records::read_branching;
@@ -34,18 +35,39 @@ pub(crate) fn between(h: Reading) -> bool
     false
 }
 
+// Whether records of a kind are those of a scenario: leaks, branchings, outcomes and effects.
+pub(crate) fn of_scenario(kind: u8) -> bool
+    ensures { λ r. ⌜ r ≡ ofScenario kind ⌝ }
+{
+    if kind < record::LEAK {
+        return false;
+    }
+    if record::TIMED_EFFECT < kind {
+        return false;
+    }
+    if kind == record::CLOSING {
+        return false;
+    }
+    true
+}
+
+// The length of an effect's record, by its kind.
+fn effect_length(kind: u8) -> u8
+    ensures { λ r. ⌜ r ≡ ifEq kind timedKind 10 9 ⌝ }
+{
+    if kind == record::TIMED_EFFECT {
+        return 10;
+    }
+    9
+}
+
 // Whether a whole leak, branching, outcome or effect begins here, with room for any record.
 fn scenario_here(h: Reading, bytes: &[u8]) -> bool
-    ensures { λ r. ⌜ (r ≡ true → (h .phase ≡ openPhase) × (h .have ≡ 0) × (16 ≤ length (now (bytes .entry))) × (leakKind ≤ getD (now (bytes .entry)) 0 0) × (getD (now (bytes .entry)) 0 0 ≤ effectKind)) ⌝ }
+    ensures { λ r. ⌜ (r ≡ true → (h .phase ≡ openPhase) × (h .have ≡ 0) × (16 ≤ length (now (bytes .entry))) × (ofScenario (getD (now (bytes .entry)) 0 0) ≡ true)) ⌝ }
 {
     if between(h) {
         if 16 <= bytes.len() {
-            let kind = bytes[0];
-            if record::LEAK <= kind {
-                if kind <= record::EFFECT {
-                    return true;
-                }
-            }
+            return of_scenario(bytes[0]);
         }
     }
     false
@@ -85,29 +107,30 @@ fn read_one(
     facts: &mut [u64; 256],
     kinds: &mut [u64; 6],
 ) -> Run
-    requires { ⌜ (16 ≤ length (now p)) × (leakKind ≤ getD (now p) 0 0) × (getD (now p) 0 0 ≤ effectKind) × (at + length (now p) ≤ most64) ⌝ }
+    requires { ⌜ (16 ≤ length (now p)) × (ofScenario (getD (now p) 0 0) ≡ true) × (at + length (now p) ≤ most64) ⌝ }
     ensures { λ r. ⌜ Records (now (p .entry)) (r .at) ⌝ }
     ensures { λ r. ⌜ ((q : List ℕ) → state (withKinds (r .core) (now (kinds .exit))) (replicate 16 0) (now (stack .exit)) (now (sums .exit)) (now (margins .exit)) (now (facts .exit)) ≡ afterFirst (state (withKinds (core (reading openPhase (lengthOf (now (p .entry))) (at + lengthOf (now (p .entry))) at 0 0) k b y) (now (kinds .entry))) q (now (stack .entry)) (now (sums .entry)) (now (margins .entry)) (now (facts .entry))) (now (p .entry)) (r .at)) ⌝ }
 {
     let first = &p[0..16];
     let kind = decoding::kind(first);
-    if kind == record::EFFECT {
-        let c = entered_at(k, b, y, at, 9);
-        return read_effects(c, p, sums, margins, facts);
-    }
-    if kind == record::OUTCOME {
-        let c = entered_at(k, b, y, at, 4);
-        let r = read_outcome(c, first, stack, kinds);
-        return Run { core: r, at: 4 };
+    if kind == record::LEAK {
+        let c = entered_at(k, b, y, at, 13);
+        let r = read_leak(c, first, stack);
+        return Run { core: r, at: 13 };
     }
     if kind == record::BRANCHING {
         let c = entered_at(k, b, y, at, 5);
         let r = read_branching(c, first, stack);
         return Run { core: r, at: 5 };
     }
-    let c = entered_at(k, b, y, at, 13);
-    let r = read_leak(c, first, stack);
-    Run { core: r, at: 13 }
+    if kind == record::OUTCOME {
+        let c = entered_at(k, b, y, at, 4);
+        let r = read_outcome(c, first, stack, kinds);
+        return Run { core: r, at: 4 };
+    }
+    let n = effect_length(kind);
+    let c = entered_at(k, b, y, at, n);
+    read_effects(c, p, sums, margins, facts)
 }
 
 // The records of scenarios that the bytes begin with. The parts that go by value stand each by itself in the loop; the reading that comes in is not
@@ -121,7 +144,7 @@ fn read_from_first(
     facts: &mut [u64; 256],
     kinds: &mut [u64; 6],
 ) -> Run
-    requires { ⌜ (16 ≤ length (now bytes)) × (leakKind ≤ getD (now bytes) 0 0) × (getD (now bytes) 0 0 ≤ effectKind) ⌝ }
+    requires { ⌜ (16 ≤ length (now bytes)) × (ofScenario (getD (now bytes) 0 0) ≡ true) ⌝ }
     ensures { λ r. ⌜ Records (now (bytes .entry)) (r .at) ⌝ }
     ensures { λ r. ⌜ ((q : List ℕ) → state (withKinds (r .core) (now (kinds .exit))) (replicate 16 0) (now (stack .exit)) (now (sums .exit)) (now (margins .exit)) (now (facts .exit)) ≡ afterFirst (state (withKinds (core (reading openPhase (lengthOf (now (bytes .entry))) (lengthOf (now (bytes .entry))) 0 0 0) (c .counts) (c .branch) (c .tally)) (now (kinds .entry))) q (now (stack .entry)) (now (sums .entry)) (now (margins .entry)) (now (facts .entry))) (now (bytes .entry)) (r .at)) ⌝ }
 {
@@ -171,7 +194,7 @@ pub(crate) fn read_scenarios(
     facts: &mut [u64; 256],
     kinds: &mut [u64; 6],
 ) -> Run
-    requires { ⌜ (16 ≤ length (now bytes)) × (leakKind ≤ getD (now bytes) 0 0) × (getD (now bytes) 0 0 ≤ effectKind) ⌝ }
+    requires { ⌜ (16 ≤ length (now bytes)) × (ofScenario (getD (now bytes) 0 0) ≡ true) ⌝ }
     ensures { λ r. ⌜ Records (now (bytes .entry)) (r .at) ⌝ }
     ensures { λ r. ⌜ ((q : List ℕ) → state (withKinds (r .core) (now (kinds .exit))) (replicate 16 0) (now (stack .exit)) (now (sums .exit)) (now (margins .exit)) (now (facts .exit)) ≡ afterFirst (state (withKinds c (now (kinds .entry))) q (now (stack .entry)) (now (sums .entry)) (now (margins .entry)) (now (facts .entry))) (now (bytes .entry)) (r .at)) ⌝ }
 {

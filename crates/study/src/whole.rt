@@ -13,12 +13,12 @@ use crate::records::Run;
 use crate::records::read_other;
 use crate::scenarios::between;
 use crate::scenarios::entered_at;
+use crate::scenarios::of_scenario;
 use crate::scenarios::read_scenarios;
 use reading::Entered;
 use reading::enter_byte;
 use state::Core;
 use state::Reading;
-use state::record;
 
 // Whether a whole record of a known kind begins here, with room for any.
 fn next_here(h: Reading, bytes: &[u8]) -> bool
@@ -61,10 +61,8 @@ fn read_some(
     ensures { λ r. ⌜ ((q : List ℕ) → state (withKinds (r .core) (now (kinds .exit))) (replicate 16 0) (now (stack .exit)) (now (sums .exit)) (now (margins .exit)) (now (facts .exit)) ≡ afterFirst (state (withKinds c (now (kinds .entry))) q (now (stack .entry)) (now (sums .entry)) (now (margins .entry)) (now (facts .entry))) (now (bytes .entry)) (r .at)) ⌝ }
 {
     let kind = decoding::kind(bytes);
-    if record::LEAK <= kind {
-        if kind <= record::EFFECT {
-            return read_scenarios(c, bytes, stack, sums, margins, facts, kinds);
-        }
+    if of_scenario(kind) {
+        return read_scenarios(c, bytes, stack, sums, margins, facts, kinds);
     }
     read_other(c, bytes, facts)
 }

@@ -1,11 +1,12 @@
 -- `study::records::read_other` meets its contract, kind by kind. Assumes nothing.
 use mathlib.Core.Path.{_≡_, sym, _∙_}
-use Prim.Native.Nat.{ℕ, _<_, _≤_}
+use Prim.Native.Nat.{ℕ, _≤_}
 use native.Mathlib.Omega.{arith}
+use lib.ListN.{getD}
 use Rattle.model.specs.Format.{closingRec}
 use Rattle.model.specs.Verdict.{decode, field}
 use Rattle.decoding.proofs.DecodeLaws.{decode-opening, decode-target, decode-closing}
-use Rattle.study.proofs.SpanLaws.{length-at}
+use Rattle.study.proofs.SpanLaws.{length-at, other-kinds}
 use Rattle.study.proofs.KindTotalLaws.{Other, other-read}
 use borrow.Author.Needs.{needs}
 use Rattle.study.proofs.records.read_other.Statement.{statement}
@@ -41,15 +42,19 @@ returns-2 c =
     (c .ended2 .ensures .1 ∙ length-at (k .kind .ensures), λ l q t s m. rw (c .ended2 .ensures .0) (other-read l _ _ q t s m _ t s m _ _ _ d tt (c .before .read-opening .ensures q t s m _)))
 
 -- what is left is a closing
-no-other : (x n : ℕ) → (3 ≤ x → 6 < x) → 3 ≤ n → n ≤ 6 → x ≡ n → ⊥
-no-other x n h v w e = omega (arith, h (omega arith))
-
 closing-at : (c : tie.Else2) → let p = c .before .before .before .before .args .p .now in decode p ≡ closingRec (field p 1 4) (field p 5 8)
 closing-at c =
     let k = c .before .before in
     let e = k .kind .ensures in
-    let o = k .before .before .pre in
-    decode-closing (k .before .before .args .p .now) (no-other _ 6 o (omega arith) (omega arith)) (no-other _ 5 o (omega arith) (omega arith)) (no-other _ 4 o (omega arith) (omega arith)) (no-other _ 3 o (omega arith) (omega arith)) (λ z. c .before .if1 .left (e ∙ z)) (λ z. c .if2 .left (e ∙ z))
+    let p = k .before .before .args .p .now in
+    let no : (n : ℕ) → 3 ≤ n → n ≤ 8 → (n ≡ 7 → ⊥) → getD p 0 0 ≡ n → ⊥ = λ n. other-kinds _ n (k .before .before .pre) in
+    decode-closing p
+    (no 8 (omega arith) (omega arith) (λ z. omega arith))
+    (no 6 (omega arith) (omega arith) (λ z. omega arith))
+    (no 5 (omega arith) (omega arith) (λ z. omega arith))
+    (no 4 (omega arith) (omega arith) (λ z. omega arith))
+    (no 3 (omega arith) (omega arith) (λ z. omega arith))
+    (λ z. c .before .if1 .left (e ∙ z)) (λ z. c .if2 .left (e ∙ z))
 
 read-closing-requires : tie.Need-read-closing-requires
 read-closing-requires c κs = closing-at c

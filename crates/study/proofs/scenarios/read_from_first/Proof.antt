@@ -8,7 +8,7 @@ use lib.ListN.{length, getD, drop, replicate, length-drop}
 use lib.Dec.{T}
 use Rattle.model.specs.Machine.{state, core, reading}
 use Rattle.counting.specs.Kinds.{withKinds}
-use Rattle.study.specs.Spans.{lengthOf, Next, afterFirst, Records}
+use Rattle.study.specs.Spans.{ofScenario, lengthOf, Next, afterFirst, Records}
 use Rattle.study.proofs.SpanLaws.{Standing, Reached, standing-start, reached-start, rest-is, scenario-known, more-read, records-more, standing-next, reached-next}
 use Rattle.study.proofs.MoveLaws.{atFirst, counted}
 use borrow.Author.Needs.{needs}
@@ -20,8 +20,7 @@ abbrev Inv-loop : tie.InvT-loop
 Inv-loop bytes stack₀ sums₀ margins₀ facts₀ kinds₀ h₀ k₀ b₀ y₀ at₀ more₀ stack sums margins facts kinds h k b y at more =
     (more ≡ true →
     Standing bytes at
-    × (3 ≤ getD (drop at bytes) 0 0)
-    × (getD (drop at bytes) 0 0 ≤ 6)
+    × (ofScenario (getD (drop at bytes) 0 0) ≡ true)
     × ((q : List ℕ) → Reached (state (withKinds (core (atFirst (lengthOf bytes)) k₀ b₀ y₀) kinds₀) q stack₀ sums₀ margins₀ facts₀) (state (withKinds (core (reading 0 (lengthOf (drop at bytes)) (at + lengthOf (drop at bytes)) at 0 0) k b y) kinds) q stack sums margins facts) bytes at))
     × (more ≡ false →
     Records bytes at
@@ -51,7 +50,6 @@ loop-holds c =
       λ e. (
         standing-start l (s .pre .0),
         s .pre .1,
-        s .pre .2,
         λ q.
             subst (λ (x : ℕ). Reached (state (withKinds (core (atFirst (lengthOf l)) (g .c .counts) (g .c .branch) (g .c .tally)) (g .kinds .now)) q (g .stack .now) (g .sums .now) (g .margins .now) (g .facts .now)) (state (withKinds (core (reading 0 (lengthOf l) x 0 0 0) (g .c .counts) (g .c .branch) (g .c .tally)) (g .kinds .now)) q (g .stack .now) (g .sums .now) (g .margins .now) (g .facts .now)) l 0)
             z (reached-start _ l),
@@ -75,7 +73,7 @@ read-one-requires c κs =
     let w = v .inv .0 (i .loop-test .taken) in
     let s = i .before .before .before .before .before .before .before in
     let l = s .args .bytes .now in
-    (rw (rest-is l (v .at)) (omega (arith, length-drop (v .at) l, w .0 .room)), rw (rest-is l (v .at)) (w .1), rw (rest-is l (v .at)) (w .2), rw (rest-is l (v .at)) (omega (arith, length-drop (v .at) l, w .0 .room, s .good)))
+    (rw (rest-is l (v .at)) (omega (arith, length-drop (v .at) l, w .0 .room)), rw (rest-is l (v .at)) (w .1), rw (rest-is l (v .at)) (omega (arith, length-drop (v .at) l, w .0 .room, s .good)))
 
 add-at : tie.Need-add-at Inv-loop μ-loop
 add-at c = omega (arith, records-at (c .before .before .before .before .before .before) .there, c .before .before .before .before .before .before .before .before .before .before .before .before .before .before .before .before .before .before .before .before .good)
@@ -108,7 +106,7 @@ loop-again c =
     let w = v .inv .0 (i .loop-test .taken) in
     let r = records-at t in
     let at = v .at + t .read-one .result .at in
-    let a : ((q : List ℕ) → _) = λ q. more-read _ _ _ l (v .at) _ (w .0) (w .3 q) (one-at t) (rw (rest-is l (v .at)) at (t .read-one .ensures .1 q)) in (
+    let a : ((q : List ℕ) → _) = λ q. more-read _ _ _ l (v .at) _ (w .0) (w .2 q) (one-at t) (rw (rest-is l (v .at)) at (t .read-one .ensures .1 q)) in (
       λ e.
           let n = rw (rest-is l at) at (c .scenario-here .ensures e) in
           let p = counted l at r (omega (arith, s .good)) _ _ _ [] _ _ _ _ _ (a []) (n .0) in
@@ -116,12 +114,11 @@ loop-again c =
           let x : Next (t .read-one .result .core .reading) (drop at l) =
           record {
             between = record { reads = n .0; none = n .1; room = omega (arith, p, d, n .2, r .there, s .good) };
-            known = scenario-known _ (n .3) (n .4);
+            known = scenario-known _ (n .3);
             room = n .2;
           } in (
             standing-next _ l at r x,
             n .3,
-            n .4,
             λ q. rw p at (reached-next _ _ q _ _ _ _ l at r x (a q)),
           ),
       λ e. (r, a),

@@ -1,7 +1,10 @@
 -- `study::scenarios::read_one` meets its contract, kind by kind. Assumes nothing.
-use mathlib.Core.Path.{_≡_, sym, _∙_, ap}
+use mathlib.Core.Path.{_≡_, refl, sym, _∙_, ap}
+use mathlib.Core.Logic.{inl, inr}
+use mathlib.Core.Bool.{true}
 use mathlib.Core.List.{List}
-use Prim.Native.Nat.{ℕ, _+_}
+use Prim.Native.Nat.{ℕ, _+_, _≤_}
+use native.Mathlib.Decide.{ℕ-discrete}
 use native.Mathlib.Omega.{arith}
 use lib.ListN.{getD, take}
 use Rattle.numeric.specs.Choice.{ifEq}
@@ -13,8 +16,8 @@ use Rattle.model.specs.Verdict.{bodyLength, decode}
 use Rattle.model.specs.Machine.{State, state, core, reading}
 use Rattle.counting.specs.Kinds.{withKinds}
 use Rattle.decoding.proofs.DecodeLaws.{decode-leak, decode-branching, decode-outcome}
-use Rattle.study.specs.Spans.{lengthOf, afterFirst}
-use Rattle.study.proofs.SpanLaws.{length-at, scenario-known, effect-length, in-sixteen, read-alone, records-alone}
+use Rattle.study.specs.Spans.{ofScenario, lengthOf, afterFirst}
+use Rattle.study.proofs.SpanLaws.{IsEffect, length-at, scenario-kinds, scenario-known, in-sixteen, read-alone, records-alone}
 use Rattle.study.proofs.KindTotalLaws.{Other, other-read}
 use borrow.Author.Needs.{needs}
 use Rattle.study.proofs.scenarios.read_one.Statement.{statement}
@@ -42,105 +45,141 @@ kind-requires c κs = search needs
 in-first : (c : tie.After-kind) → let l = c .before .before .before .args .p .now in (getD (take 16 l) 0 0 ≡ getD l 0 0) × (decode (take 16 l) ≡ decode l)
 in-first c =
     let s = c .before .before .before in
-    in-sixteen (s .args .p .now) (s .pre .0) (scenario-known _ (s .pre .1) (s .pre .2))
+    in-sixteen (s .args .p .now) (s .pre .0) (scenario-known _ (s .pre .1))
 
 entered-at-requires : tie.Need-entered-at-requires
 entered-at-requires c κs = search needs
 
--- the kinds that the tests leave
-effect-at : (c : tie.Then1) → getD (c .before .before .before .before .args .p .now) 0 0 ≡ 6
-effect-at c = sym (in-first (c .before) .0) ∙ sym (c .before .kind .ensures) ∙ c .if1 .taken
+-- the kinds that the tests find
+leak-at : (c : tie.Then1) → getD (take 16 (c .before .before .before .before .args .p .now)) 0 0 ≡ 3
+leak-at c = sym (c .before .kind .ensures) ∙ c .if1 .taken
 
-outcome-at : (c : tie.Then2) → getD (take 16 (c .before .before .before .before .before .args .p .now)) 0 0 ≡ 5
-outcome-at c = sym (c .before .before .kind .ensures) ∙ c .if2 .taken
+branching-at : (c : tie.Then2) → getD (take 16 (c .before .before .before .before .before .args .p .now)) 0 0 ≡ 4
+branching-at c = sym (c .before .before .kind .ensures) ∙ c .if2 .taken
 
-branching-at : (c : tie.Then3) → getD (take 16 (c .before .before .before .before .before .before .args .p .now)) 0 0 ≡ 4
-branching-at c = sym (c .before .before .before .kind .ensures) ∙ c .if3 .taken
+outcome-at : (c : tie.Then3) → getD (take 16 (c .before .before .before .before .before .before .args .p .now)) 0 0 ≡ 5
+outcome-at c = sym (c .before .before .before .kind .ensures) ∙ c .if3 .taken
 
-leak-at : (c : tie.Else3) → getD (take 16 (c .before .before .before .before .before .before .args .p .now)) 0 0 ≡ 3
-leak-at c =
+-- and the two that they leave
+low : (k : ℕ) → 3 ≤ k → (k ≡ 3 → ⊥) → (k ≡ 4 → ⊥) → (k ≡ 5 → ⊥) → 6 ≤ k
+low k h a b d = omega arith
+
+high : (k : ℕ) → k ≤ 8 → (k ≡ 7 → ⊥) → (k ≡ 8 → ⊥) → k ≤ 6
+high k h a b = omega arith
+
+effect-kinds : (l : List ℕ) → (getD l 0 0 ≡ 3 → ⊥) → (getD l 0 0 ≡ 4 → ⊥) → (getD l 0 0 ≡ 5 → ⊥) → ofScenario (getD l 0 0) ≡ true → IsEffect l
+effect-kinds l a b d e = go (ℕ-discrete (getD l 0 0) 8)
+  where
+    go : Dec (getD l 0 0 ≡ 8) → IsEffect l
+    go (yes z) = inr z
+    go (no z) = let w = scenario-kinds (getD l 0 0) e in inl (omega (arith, low (getD l 0 0) (w .0) a b d, high (getD l 0 0) (w .1) (w .2) z))
+
+effect-at : (c : tie.Else3) → IsEffect (c .before .before .before .before .before .before .args .p .now)
+effect-at c =
     let k = c .before .before .before in
     let s = k .before .before .before in
-    omega (arith, s .pre .1, s .pre .2, in-first k .0, k .kind .ensures, c .before .before .if1 .left, c .before .if2 .left, c .if3 .left)
-
-read-effects-requires : tie.Need-read-effects-requires
-read-effects-requires c κs =
-    let e = c .before .before .before in
-    let s = e .before .before .before .before .before in
-    ((s .pre .0, effect-at (e .before)), rw (e .entered-at .ensures) (omega (arith, s .pre .0, s .pre .3)))
-
-returns : tie.Need-returns
-returns c =
-    let e = c .before .before .before .before in
-    let s = e .before .before .before .before .before in
-    let g = s .args in
-    let n : 9 ≡ lengthOf (g .p .now) = sym (effect-length (g .p .now) (effect-at (e .before))) in
-    (c .read-effects .ensures .0, λ q. entered-after _ (g .k) (g .b) (g .y) (g .at) 9 _ (g .p .now) (g .kinds .now) q _ _ _ _ _ n (e .entered-at .ensures) (c .read-effects .ensures .1 (g .kinds .now) q _))
-
-entered-at-requires-2 : tie.Need-entered-at-requires-2
-entered-at-requires-2 c κs = search needs
-
-read-outcome-requires : tie.Need-read-outcome-requires
-read-outcome-requires c κs = decode-outcome _ (outcome-at (c .before .before .before))
-
-returns-2 : tie.Need-returns-2
-unfolding bodyLength ifEq
-returns-2 c =
-    let e = c .before .before .before in
-    let w = in-first (e .before .before .before) in
-    let s = e .before .before .before .before .before .before in
-    let g = s .args in
-    let l = g .p .now in
-    let n : 4 ≡ lengthOf l = length-at (sym (outcome-at (e .before)) ∙ w .0) in (
-      records-alone l 4 n (s .pre .0),
-      λ q.
-          entered-after _ (g .k) (g .b) (g .y) (g .at) 4 4 l (g .kinds .now) q _ _ _ _ _ n (e .entered-at2 .ensures)
-          (read-alone _ _ q _ _ _ _ l 4 n (rw (w .1) at (c .read-outcome .ensures q (g .sums .now) (g .margins .now) (g .facts .now)))),
-    )
-
-entered-at-requires-3 : tie.Need-entered-at-requires-3
-entered-at-requires-3 c κs = search needs
-
-read-branching-requires : tie.Need-read-branching-requires
-read-branching-requires c κs = decode-branching _ (branching-at (c .before .before))
-
-returns-3 : tie.Need-returns-3
-unfolding bodyLength ifEq Other
-returns-3 c =
-    let e = c .before .before in
-    let w = in-first (e .before .before .before .before) in
-    let s = e .before .before .before .before .before .before .before in
-    let g = s .args in
-    let l = g .p .now in
-    let k = branching-at (e .before) in
-    let n : 5 ≡ lengthOf l = length-at (sym k ∙ w .0) in (
-      records-alone l 5 n (s .pre .0),
-      λ q.
-          entered-after _ (g .k) (g .b) (g .y) (g .at) 5 5 l (g .kinds .now) q _ _ _ _ _ n (e .entered-at3 .ensures)
-          (read-alone _ _ q _ _ _ _ l 5 n (rw (w .1) at (other-read (g .kinds .now) _ _ q _ _ _ _ _ _ _ _ _ _ (decode-branching (take 16 l) k) tt (c .read-branching .ensures q (g .sums .now) (g .margins .now) (g .facts .now))))),
-    )
-
-entered-at-requires-4 : tie.Need-entered-at-requires-4
-entered-at-requires-4 c κs = search needs
+    let e = k .kind .ensures ∙ in-first k .0 in
+    effect-kinds (s .args .p .now) (λ z. c .before .before .if1 .left (e ∙ z)) (λ z. c .before .if2 .left (e ∙ z)) (λ z. c .if3 .left (e ∙ z)) (s .pre .1)
 
 read-leak-requires : tie.Need-read-leak-requires
 read-leak-requires c κs = decode-leak _ (leak-at (c .before .before))
 
-returns-4 : tie.Need-returns-4
+returns : tie.Need-returns
 unfolding bodyLength ifEq Other
-returns-4 c =
+returns c =
     let e = c .before .before in
-    let w = in-first (e .before .before .before .before) in
-    let s = e .before .before .before .before .before .before .before in
+    let w = in-first (e .before .before) in
+    let s = e .before .before .before .before .before in
     let g = s .args in
     let l = g .p .now in
     let k = leak-at (e .before) in
     let n : 13 ≡ lengthOf l = length-at (sym k ∙ w .0) in (
       records-alone l 13 n (s .pre .0),
       λ q.
-          entered-after _ (g .k) (g .b) (g .y) (g .at) 13 13 l (g .kinds .now) q _ _ _ _ _ n (e .entered-at4 .ensures)
+          entered-after _ (g .k) (g .b) (g .y) (g .at) 13 13 l (g .kinds .now) q _ _ _ _ _ n (e .entered-at .ensures)
           (read-alone _ _ q _ _ _ _ l 13 n (rw (w .1) at (other-read (g .kinds .now) _ _ q _ _ _ _ _ _ _ _ _ _ (decode-leak (take 16 l) k) tt (c .read-leak .ensures q (g .sums .now) (g .margins .now) (g .facts .now))))),
     )
+
+entered-at-requires-2 : tie.Need-entered-at-requires-2
+entered-at-requires-2 c κs = search needs
+
+read-branching-requires : tie.Need-read-branching-requires
+read-branching-requires c κs = decode-branching _ (branching-at (c .before .before))
+
+returns-2 : tie.Need-returns-2
+unfolding bodyLength ifEq Other
+returns-2 c =
+    let e = c .before .before in
+    let w = in-first (e .before .before .before) in
+    let s = e .before .before .before .before .before .before in
+    let g = s .args in
+    let l = g .p .now in
+    let k = branching-at (e .before) in
+    let n : 5 ≡ lengthOf l = length-at (sym k ∙ w .0) in (
+      records-alone l 5 n (s .pre .0),
+      λ q.
+          entered-after _ (g .k) (g .b) (g .y) (g .at) 5 5 l (g .kinds .now) q _ _ _ _ _ n (e .entered-at2 .ensures)
+          (read-alone _ _ q _ _ _ _ l 5 n (rw (w .1) at (other-read (g .kinds .now) _ _ q _ _ _ _ _ _ _ _ _ _ (decode-branching (take 16 l) k) tt (c .read-branching .ensures q (g .sums .now) (g .margins .now) (g .facts .now))))),
+    )
+
+entered-at-requires-3 : tie.Need-entered-at-requires-3
+entered-at-requires-3 c κs = search needs
+
+read-outcome-requires : tie.Need-read-outcome-requires
+read-outcome-requires c κs = decode-outcome _ (outcome-at (c .before .before .before))
+
+returns-3 : tie.Need-returns-3
+unfolding bodyLength ifEq
+returns-3 c =
+    let e = c .before .before .before in
+    let w = in-first (e .before .before .before .before) in
+    let s = e .before .before .before .before .before .before .before in
+    let g = s .args in
+    let l = g .p .now in
+    let n : 4 ≡ lengthOf l = length-at (sym (outcome-at (e .before)) ∙ w .0) in (
+      records-alone l 4 n (s .pre .0),
+      λ q.
+          entered-after _ (g .k) (g .b) (g .y) (g .at) 4 4 l (g .kinds .now) q _ _ _ _ _ n (e .entered-at3 .ensures)
+          (read-alone _ _ q _ _ _ _ l 4 n (rw (w .1) at (c .read-outcome .ensures q (g .sums .now) (g .margins .now) (g .facts .now)))),
+    )
+
+effect-length-requires : tie.Need-effect-length-requires
+effect-length-requires c κs = search needs
+
+-- the length of the effect that the bytes begin with
+length-is : (l : List ℕ) (k n : ℕ) → IsEffect l → k ≡ getD l 0 0 → n ≡ ifEq k 8 10 9 → n ≡ lengthOf l
+unfolding bodyLength ifEq
+length-is l k n (inl h) e q = q ∙ rw (e, h) refl
+length-is l k n (inr h) e q = q ∙ rw (e, h) refl
+
+length-most : (l : List ℕ) → IsEffect l → lengthOf l ≤ 10
+unfolding bodyLength ifEq
+length-most l (inl h) = rw h (omega arith)
+length-most l (inr h) = rw h (omega arith)
+
+length-here : (c : tie.After-effect-length) → c .effect-length .result ≡ lengthOf (c .before .before .before .before .before .before .before .args .p .now)
+length-here c =
+    let k = c .before .before .before .before in
+    length-is (k .before .before .before .args .p .now) _ _ (effect-at (c .before)) (k .kind .ensures ∙ in-first k .0) (c .effect-length .ensures)
+
+entered-at-requires-4 : tie.Need-entered-at-requires-4
+entered-at-requires-4 c κs =
+    let s = c .before .before .before .before .before .before .before in
+    omega (arith, length-here c, length-most (s .args .p .now) (effect-at (c .before)), s .pre .0, s .pre .2)
+
+read-effects-requires : tie.Need-read-effects-requires
+read-effects-requires c κs =
+    let e = c .before .before .before in
+    let n = length-here (e .before) in
+    let s = e .before .before .before .before .before .before .before .before in
+    ((s .pre .0, effect-at (e .before .before)), rw (e .entered-at4 .ensures) (n, ap (λ (x : ℕ). s .args .at + x) n, s .pre .2))
+
+returns-4 : tie.Need-returns-4
+returns-4 c =
+    let e = c .before .before .before .before in
+    let s = e .before .before .before .before .before .before .before .before in
+    let g = s .args in
+    (c .read-effects .ensures .0, λ q. entered-after _ (g .k) (g .b) (g .y) (g .at) _ _ (g .p .now) (g .kinds .now) q _ _ _ _ _ (length-here (e .before)) (e .entered-at4 .ensures) (c .read-effects .ensures .1 (g .kinds .now) q _))
 
 pub read-one-spec : {M : Type 1} → statement M
 read-one-spec =
@@ -151,14 +190,15 @@ read-one-spec =
     part-first-end
     kind-requires
     entered-at-requires
-    read-effects-requires
+    read-leak-requires
     returns
     entered-at-requires-2
-    read-outcome-requires
+    read-branching-requires
     returns-2
     entered-at-requires-3
-    read-branching-requires
+    read-outcome-requires
     returns-3
+    effect-length-requires
     entered-at-requires-4
-    read-leak-requires
+    read-effects-requires
     returns-4)
