@@ -401,7 +401,17 @@ fn take_one(
 {
     if decoding::kind(p) == timing.kind {
         if is_fire(b.kind) {
-            return fire(b, timing.clock, targets, limit, next, p, sums, margins, facts);
+            return fire(
+                b,
+                timing.clock,
+                targets,
+                limit,
+                next,
+                p,
+                sums,
+                margins,
+                facts,
+            );
         }
         if b.kind == outcome::FLASH_FIRE {
             return flash(b, targets, limit, next, p, sums, margins, facts);

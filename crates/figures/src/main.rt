@@ -1,10 +1,11 @@
-// Prints the figures of document 01, "Figures on both sides", that speak of branches, logarithms and chances, and those of document 02, requests P1 and P2.
+// Prints the figures of document 01, "Figures on both sides", that speak of branches, logarithms and chances, and those of document 02, requests P1, P2 and P6.
 use libc::STDOUT_FILENO;
 use numeric;
 use terms::Target;
 use terms::class;
 use terms::outcome;
 use terms::setting;
+use terms::unit;
 
 fn word(text: &[u8]) {
     io::write_all(STDOUT_FILENO, text);
@@ -59,7 +60,7 @@ fn fires(setting: u8, q: u32, duration: u16) {
         volume: 0,
     };
     people(outcome::POOL_FIRE, setting, q, duration);
-    number(vulnerability::fire(target, q, duration) as u64);
+    number(vulnerability::fire(terms::clock_of(unit::SECONDS), target, q, duration) as u64);
     word(b"\n");
 }
 
@@ -104,10 +105,26 @@ fn spheres(volume: u32, q: u32, duration: u16) {
     number(volume as u64);
     number(q as u64);
     number(duration as u64);
-    number(vulnerability::fire(target, q, duration) as u64);
+    number(vulnerability::fire(terms::clock_of(unit::SECONDS), target, q, duration) as u64);
     if !equipment::judged_in_fire(class::PRESSURISED, volume) {
         word(b" unjudged");
     }
+    word(b"\n");
+}
+
+// A fire timed in tenths: class, volume, heat, duration; chance of death or damage.
+fn tenths(class: u8, volume: u32, q: u32, duration: u16) {
+    let target = Target {
+        class: class,
+        setting: setting::INDIVIDUAL,
+        volume: volume,
+    };
+    word(b"tenths");
+    number(class as u64);
+    number(volume as u64);
+    number(q as u64);
+    number(duration as u64);
+    number(vulnerability::fire(terms::clock_of(unit::TENTHS), target, q, duration) as u64);
     word(b"\n");
 }
 
@@ -170,6 +187,23 @@ fn all_probits() {
     blasts(class::PRESSURISED, 212_237);
 }
 
+// Fires timed in tenths: both sides of 200 tenths for people, and of 6000 for each rule of equipment.
+fn all_tenths() {
+    tenths(class::PEOPLE, 0, 9_875, 199);
+    tenths(class::PEOPLE, 0, 9_875, 200);
+    tenths(class::PEOPLE, 0, 9_822, 200);
+    tenths(class::PEOPLE, 0, 9_822, 201);
+    tenths(class::PEOPLE, 0, 12_500, 200);
+    tenths(class::PEOPLE, 0, 35_000, 1);
+    tenths(class::ATMOSPHERIC, 100_000, 15_001, 6_000);
+    tenths(class::ATMOSPHERIC, 100_000, 15_001, 6_001);
+    tenths(class::PIPE, 100_000, 15_001, 6_000);
+    tenths(class::PIPE, 100_000, 15_001, 6_001);
+    tenths(class::PRESSURISED, 1, 60_000, 6_000);
+    tenths(class::PRESSURISED, 1, 60_000, 6_001);
+    tenths(class::TOWER, 1, 60_000, 6_001);
+}
+
 fn main() {
     branches(1, 500_000);
     branches(10_000_000_000_000, 999_999);
@@ -180,4 +214,5 @@ fn main() {
     all_blasts();
     all_spheres();
     all_probits();
+    all_tenths();
 }
