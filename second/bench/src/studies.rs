@@ -10,10 +10,11 @@ pub struct Input {
     pub targets: u16,
 }
 
-pub fn inputs(seed: u64) -> [Input; 4] {
+pub fn inputs(seed: u64) -> [Input; 5] {
     [
         effects(seed),
         timed_effects(seed),
+        mixed_timings(seed),
         deep_trees(seed),
         small_scenarios(seed),
     ]
@@ -32,10 +33,20 @@ impl Random {
     }
 }
 
+/// How the effects of a study are timed.
+#[derive(Clone, Copy)]
+enum Timing {
+    /// By kind 6.
+    Plain,
+    /// By kind 8, each outcome in one unit, seven of eight in tenths.
+    ByOutcome,
+    /// Each by kind 6, by kind 8 in seconds or by kind 8 in tenths.
+    ByEffect,
+}
+
 struct Maker {
     random: Random,
-    /// Whether effects are of kind 8; seven of eight are then in tenths.
-    timed: bool,
+    timing: Timing,
     bytes: Vec<u8>,
     records: u32,
     scenarios: u32,
@@ -47,7 +58,7 @@ impl Maker {
     fn new(seed: u64, targets: u16) -> Maker {
         let mut maker = Maker {
             random: Random(seed),
-            timed: false,
+            timing: Timing::Plain,
             bytes: Vec::new(),
             records: 0,
             scenarios: 0,
@@ -102,13 +113,22 @@ impl Maker {
         self.record(record::OUTCOME, &[&[kind], &effects.to_be_bytes()]);
         let last = self.targets - effects;
         let from = self.random.below(u64::from(last) + 1) as u16;
+        let outcome = match self.timing {
+            Timing::ByOutcome => Some(self.random.below(8) > 0),
+            _ => None,
+        };
         for target in from..from + effects {
-            self.effect(kind, target);
+            let unit = match self.timing {
+                Timing::ByEffect => [None, Some(false), Some(true)][self.random.below(3) as usize],
+                _ => outcome,
+            };
+            self.effect(kind, target, unit);
         }
     }
 
-    fn effect(&mut self, kind: u8, target: u16) {
-        let tenths = self.timed && self.random.below(8) > 0;
+    /// An effect of kind 8, in tenths or not, or one of kind 6.
+    fn effect(&mut self, kind: u8, target: u16, unit: Option<bool>) {
+        let tenths = unit == Some(true);
         let longest = if tenths { 20_000 } else { 2_000 };
         let (intensity, duration) = match kind {
             1..=3 => (self.random.below(50_000), self.random.below(longest) + 1),
@@ -117,7 +137,7 @@ impl Maker {
         };
         let (target, intensity) = (target.to_be_bytes(), (intensity as u32).to_be_bytes());
         let duration = (duration as u16).to_be_bytes();
-        if self.timed {
+        if unit.is_some() {
             let last = [u8::from(tenths)];
             self.record(
                 record::TIMED_EFFECT,
@@ -166,12 +186,20 @@ fn effects(seed: u64) -> Input {
     maker.closed("effects")
 }
 
-/// The same with effects of kind 8, most of them in tenths.
+/// The same with effects of kind 8, most outcomes in tenths.
 fn timed_effects(seed: u64) -> Input {
     let mut maker = Maker::new(seed, 256);
-    maker.timed = true;
+    maker.timing = Timing::ByOutcome;
     maker.effects();
     maker.closed("timed effects")
+}
+
+/// The same with effects timed in one of the three ways, each by itself.
+fn mixed_timings(seed: u64) -> Input {
+    let mut maker = Maker::new(seed, 256);
+    maker.timing = Timing::ByEffect;
+    maker.effects();
+    maker.closed("mixed timings")
 }
 
 /// About a million records of trees in which every branching has two branches
