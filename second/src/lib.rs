@@ -2,12 +2,13 @@
 //! the study is closed reports totals, sums, grades and the domino list.
 //!
 //! This is a second implementation, written from the rules of document 01 and
-//! requests P1, P2 and P6 of document 02 alone, to be compared with the first
+//! requests P1, P2, P3 and P6 of document 02 alone, to be compared with the first
 //! one call by call.
 
 #![forbid(unsafe_code)]
 
 pub mod chance;
+pub mod ignition;
 pub mod logarithm;
 pub mod probit;
 pub mod record;

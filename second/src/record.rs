@@ -9,9 +9,11 @@ pub const EFFECT: u8 = 6;
 pub const CLOSING: u8 = 7;
 /// An effect with a last byte that names the clock of its duration.
 pub const TIMED_EFFECT: u8 = 8;
+/// A branching that names an ignition curve and a release rate.
+pub const CURVE_BRANCHING: u8 = 10;
 
 /// Lengths by kind, the kind byte included; 0 where the kind is unknown.
-const LENGTHS: [u8; 9] = [0, 5, 9, 13, 5, 4, 9, 13, 10];
+const LENGTHS: [u8; 11] = [0, 5, 9, 13, 5, 4, 9, 13, 10, 0, 6];
 
 /// The length of a record of this kind, its kind byte included; none for an
 /// unknown kind.
@@ -85,6 +87,7 @@ mod tests {
             (6, 9),
             (7, 13),
             (8, 10),
+            (10, 6),
         ];
         assert_eq!(known.collect::<Vec<_>>(), expected);
     }

@@ -4,6 +4,7 @@
 //! cut by the end of a piece is held, in one number, until it is complete.
 
 use crate::chance::{self, Clock};
+use crate::ignition;
 use crate::record::{self, number, outcome};
 use crate::report::{Report, Standing, TargetFigures, Totals};
 
@@ -40,7 +41,9 @@ impl Stage {
         let kinds: u16 = match self {
             Stage::Opening => 1 << record::OPENING,
             Stage::Targets => 1 << record::TARGET | 1 << record::LEAK | 1 << record::CLOSING,
-            Stage::Tree => 1 << record::BRANCHING | 1 << record::OUTCOME,
+            Stage::Tree => {
+                1 << record::BRANCHING | 1 << record::CURVE_BRANCHING | 1 << record::OUTCOME
+            }
             Stage::Effects => 1 << record::EFFECT | 1 << record::TIMED_EFFECT,
             Stage::Scenarios => 1 << record::LEAK | 1 << record::CLOSING,
             Stage::Closed | Stage::Refused => 0,
@@ -208,6 +211,8 @@ impl Study {
     pub const MIN_FREQUENCY: u64 = 1;
     pub const MAX_FREQUENCY: u64 = 10_000_000_000_000;
     pub const MAX_CHANCE: u32 = 1_000_000;
+    /// Ignition curves; the first is 1.
+    pub const MAX_CURVE: u8 = 13;
     /// Effects of one outcome.
     pub const MAX_EFFECTS: u16 = 256;
     pub const MAX_CLASS: u8 = 5;
@@ -338,6 +343,7 @@ impl Study {
             record::TARGET => self.take(rest, Study::declare),
             record::LEAK => self.take(rest, Study::leak),
             record::BRANCHING => self.take(rest, Study::branching),
+            record::CURVE_BRANCHING => self.take(rest, Study::curve_branching),
             record::OUTCOME => self.take(rest, Study::outcome),
             record::EFFECT => self.take(rest, Study::refused_effect),
             record::TIMED_EFFECT => self.take(rest, Study::refused_timed_effect),
@@ -448,12 +454,23 @@ impl Study {
     #[inline(always)]
     fn branching(&mut self, body: &[u8; 4]) -> Result<(), u8> {
         let chance = u32::from_be_bytes(*body);
+        self.branch(Some(chance).filter(|&chance| chance <= Study::MAX_CHANCE))
+    }
+
+    #[inline(always)]
+    fn curve_branching(&mut self, body: &[u8; 5]) -> Result<(), u8> {
+        let [curve, rate @ ..] = *body;
+        self.branch(ignition::chance(curve, u32::from_be_bytes(rate)))
+    }
+
+    /// Goes on to the first branch. There is no chance where a field is outside
+    /// its bounds.
+    #[inline(always)]
+    fn branch(&mut self, chance: Option<u32>) -> Result<(), u8> {
         if self.above > Study::MAX_ABOVE {
             return Err(number::TOO_MANY);
         }
-        if chance > Study::MAX_CHANCE {
-            return Err(number::FIELD);
-        }
+        let chance = chance.ok_or(number::FIELD)?;
         let first = share(self.frequency, chance);
         self.above += 1;
         self.branches[usize::from(self.waiting)] = Branch {

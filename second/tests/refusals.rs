@@ -93,7 +93,7 @@ fn unknown_kinds_at_the_kind_byte() {
         nested(0).outcome(0, 0),
     ];
     for before in &stages {
-        for kind in [0, 9, 11, 15, 128, 136, 255] {
+        for kind in [0, 9, 11, 15, 128, 136, 138, 255] {
             refused(before, &before.clone().record(kind, &[]), 1);
         }
     }
@@ -112,18 +112,19 @@ fn order() {
             before.clone().effect(0, 1, 1),
             before.clone().close(),
             before.clone().timed(0, 1, 1, 1),
+            before.clone().on_curve(1, 1),
         ]
     };
     let stages: [(Builder, &[usize]); 6] = [
         (Builder::default(), &[1]),
         (two_targets(), &[2, 3, 7]),
-        (nested(0), &[4, 5]),
-        (nested(3), &[4, 5]),
+        (nested(0), &[4, 5, 10]),
+        (nested(3), &[4, 5, 10]),
         (nested(0).outcome(1, 1), &[6, 8]),
         (nested(0).outcome(0, 0), &[3, 7]),
     ];
     for (before, allowed) in &stages {
-        for (record, kind) in records(before).iter().zip(1..) {
+        for (record, kind) in records(before).iter().zip([1, 2, 3, 4, 5, 6, 7, 8, 10]) {
             if allowed.contains(&kind) {
                 taken(record);
             } else {
@@ -134,6 +135,7 @@ fn order() {
     // After the second branch of the last branching the tree is complete.
     let tree = nested(2).outcome(0, 0).outcome(0, 0).outcome(0, 0);
     refused(&tree, &tree.clone().outcome(0, 0), 2);
+    refused(&tree, &tree.clone().on_curve(1, 1), 2);
     taken(&tree.close());
     // An outcome with fewer effects than it says.
     let short = nested(0).outcome(1, 2).effect(0, 1, 1);
@@ -183,6 +185,41 @@ fn fields_of_trees() {
     }
     for (kind, effects) in [(6, 0), (255, 0), (5, 257), (1, 65_535), (0, 1), (0, 257)] {
         refused(&before, &before.clone().outcome(kind, effects), 3);
+    }
+}
+
+#[test]
+fn fields_of_branchings_by_a_curve() {
+    let before = nested(0);
+    for (curve, rate) in [
+        (1, 1),
+        (1, u32::MAX),
+        (13, 1),
+        (13, u32::MAX),
+        (8, 5_000_000),
+    ] {
+        taken(&before.clone().on_curve(curve, rate));
+    }
+    for curve in [0, 14, 15, 128, 141, 255] {
+        for rate in [0, 1, 10_000_000, u32::MAX] {
+            refused(&before, &before.clone().on_curve(curve, rate), 3);
+        }
+    }
+    for curve in 1..=13 {
+        refused(&before, &before.clone().on_curve(curve, 0), 3);
+    }
+}
+
+#[test]
+fn a_branching_by_a_curve_cut_short() {
+    let before = nested(2);
+    let whole = before.clone().on_curve(8, 5_000_000).bytes;
+    assert_eq!(whole.len(), before.bytes.len() + 6);
+    for end in before.bytes.len() + 1..whole.len() {
+        let (answer, study) = read(&whole[..end]);
+        let place = end as u64;
+        assert_eq!(answer, Answer { number: 0, place });
+        assert_eq!(study.totals().answer(), Answer { number: 8, place });
     }
 }
 
@@ -344,10 +381,18 @@ fn several_faults_in_one_record() {
     refused(&before, &before.clone().closing(0, 0), 2);
     refused(&nested(0), &nested(0).effect(9, 1, 0), 2);
     refused(&nested(0), &nested(0).timed(9, 1, 0, 2), 2);
+    for before in [two_targets(), nested(8).outcome(1, 1)] {
+        refused(&before, &before.clone().on_curve(0, 0), 2);
+        refused(&before, &before.clone().on_curve(14, 1), 2);
+    }
+    refused(&full, &full.clone().on_curve(0, 0), 2);
     // 5 before 3, 4 and 6.
     refused(&full, &full.clone().leak(0, 0), 5);
     refused(&full, &full.clone().closing(0, 0), 5);
     refused(&before, &before.clone().branching(1_000_001), 5);
+    for (curve, rate) in [(0, 1), (14, 1), (255, 1), (1, 0), (0, 0)] {
+        refused(&before, &before.clone().on_curve(curve, rate), 5);
+    }
     let before = targets(256);
     refused(&before, &before.clone().target(0, 6, 3, u32::MAX), 5);
     refused(&before, &before.clone().target(256, 6, 0, 0), 5);
@@ -456,6 +501,26 @@ fn levels_at_the_bound() {
 }
 
 #[test]
+fn levels_of_both_kinds() {
+    for first in [0, 1] {
+        let mut before = nested(0);
+        for level in 0..8 {
+            before = match (first + level) % 2 {
+                0 => before.branching(500_000),
+                _ => before.on_curve(13, 1),
+            };
+            taken(&before);
+        }
+        refused(&before, &before.clone().on_curve(13, 1), 5);
+        refused(&before, &before.clone().branching(500_000), 5);
+        // In the second branch of the last branching there is no level more.
+        let second = before.outcome(0, 0);
+        refused(&second, &second.clone().on_curve(13, 1), 5);
+        taken(&second.outcome(0, 0).on_curve(13, 1));
+    }
+}
+
+#[test]
 fn records_at_the_bound() {
     let before = records(999_999);
     assert_eq!(before.records, 999_999);
@@ -475,4 +540,9 @@ fn records_at_the_bound() {
     refused(&before, &before.clone().effect(0, 5, 1), 5);
     refused(&before, &before.clone().timed(8, 5, 0, 1), 5);
     refused(&before, &before.clone().timed(0, 5, 1, 2), 5);
+    // And a branching.
+    let before = records(999_999).leak(99_999, 1);
+    assert_eq!(before.records, 1_000_000);
+    refused(&before, &before.clone().on_curve(1, 1), 5);
+    refused(&before, &before.clone().on_curve(0, 0), 5);
 }

@@ -1,10 +1,10 @@
-//! Figures and reports by the rules of document 01 and requests P1, P2 and P6 of
-//! document 02.
+//! Figures and reports by the rules of document 01 and requests P1, P2, P3 and P6
+//! of document 02.
 
 mod common;
 
 use common::{Builder, specimen};
-use second_desk::{Answer, Standing, Study, report_text};
+use second_desk::{Answer, Standing, Study, report_text, report_text_of_pieces};
 
 fn closed(builder: &Builder) -> Study {
     let mut study = Study::new();
@@ -70,6 +70,81 @@ fn branches() {
             .close();
         let kinds = closed(&builder).totals().figures.unwrap().kinds;
         assert_eq!(kinds, [0, first, frequency - first, 0, 0, 0]);
+    }
+}
+
+/// The chance of a branching by a curve, read off the totals of the kinds.
+fn ignition(curve: u8, rate: u32) -> u64 {
+    let builder = Builder::new(1)
+        .leak(0, 1_000_000)
+        .on_curve(curve, rate)
+        .outcome(1, 0)
+        .outcome(2, 0)
+        .close();
+    let kinds = closed(&builder).totals().figures.unwrap().kinds;
+    assert_eq!(kinds[1] + kinds[2], 1_000_000);
+    kinds[1]
+}
+
+#[test]
+fn chances_by_the_curves() {
+    let at_50_kg = [
+        110_700, 57_000, 13_000, 125_000, 67_000, 50_000, 286_000, 15_300, 15_000, 2_400, 349_200,
+        102_600, 29_600,
+    ];
+    for (curve, chance) in (1..=13).zip(at_50_kg) {
+        let rates = [200_001, 360_000, 499_999, 500_000];
+        assert_eq!(rates.map(|rate| ignition(curve, rate)), [chance; 4]);
+        assert_eq!([1, 1_000].map(|rate| ignition(curve, rate)), [1_000; 2]);
+    }
+    // Both sides of a tabulated rate, and above the last one.
+    for (curve, rate, both) in [
+        (1, 1_000, [1_000, 1_300]),
+        (3, 50_000, [8_800, 13_000]),
+        (7, 1_000_000, [481_500, 600_000]),
+        (8, 2_000_000, [51_700, 120_000]),
+        (8, 5_000_000, [120_000, 120_000]),
+        (11, 1_000_000, [960_000, 1_000_000]),
+        (12, 5_000_000, [643_400, 1_000_000]),
+        (13, 5_000_000, [75_500, 100_000]),
+        (13, 10_000_000, [100_000, 100_000]),
+    ] {
+        let given = [rate, rate + 1].map(|rate| ignition(curve, rate));
+        assert_eq!(given, both, "curve {curve} at {rate}");
+    }
+    for (curve, chance) in [(1, 600_000), (10, 2_400), (12, 1_000_000), (13, 100_000)] {
+        assert_eq!(ignition(curve, u32::MAX), chance);
+    }
+}
+
+/// Two levels of branchings: 0.25, and in its second branch 0.12.
+fn two_levels(first: fn(Builder) -> Builder, second: fn(Builder) -> Builder) -> Builder {
+    let builder = Builder::new(1).target(0, 0, 0, 0).leak(1, 100_000_001);
+    let builder = first(builder).outcome(4, 1).effect(0, 1, 0);
+    let builder = second(builder).outcome(5, 1).effect(0, 30_000, 0);
+    builder.outcome(0, 0).close()
+}
+
+#[test]
+fn a_curve_gives_what_its_chance_gives() {
+    let kind_4: [fn(Builder) -> Builder; 2] = [|b| b.branching(250_000), |b| b.branching(120_000)];
+    let kind_10: [fn(Builder) -> Builder; 2] =
+        [|b| b.on_curve(4, 1_000_000), |b| b.on_curve(8, 5_000_000)];
+    let text = report_text(&two_levels(kind_4[0], kind_4[1]).bytes);
+    assert!(
+        text.contains("target 0 sum 34000000 margin 5 grade 3\n"),
+        "{text}"
+    );
+    for (first, second) in [
+        (kind_10[0], kind_10[1]),
+        (kind_4[0], kind_10[1]),
+        (kind_10[0], kind_4[1]),
+    ] {
+        let builder = two_levels(first, second);
+        for size in 1..=builder.bytes.len() {
+            let pieces = report_text_of_pieces(builder.bytes.chunks(size));
+            assert_eq!(pieces, text, "pieces of {size}");
+        }
     }
 }
 

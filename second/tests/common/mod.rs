@@ -46,6 +46,11 @@ impl Builder {
         self.record(4, &[&chance.to_be_bytes()])
     }
 
+    /// A branching by an ignition curve at a release rate.
+    pub fn on_curve(self, curve: u8, rate: u32) -> Builder {
+        self.record(10, &[&[curve], &rate.to_be_bytes()])
+    }
+
     pub fn outcome(self, kind: u8, effects: u16) -> Builder {
         self.record(5, &[&[kind], &effects.to_be_bytes()])
     }
