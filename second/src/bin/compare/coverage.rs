@@ -1,6 +1,7 @@
-//! What the rules say of the effects in a list of calls: how often each case
-//! comes up.
+//! What the rules say of the effects and branchings in a list of calls: how often
+//! each case comes up.
 
+use crate::curves::{Curves, Tree};
 use crate::studies::number;
 use crate::timing::Timing;
 use second_desk::chance::{self, Clock, class};
@@ -16,7 +17,7 @@ const SPHERES: [&str; 4] = [
 ];
 
 /// How many entries the probit table has.
-pub const ENTRIES: usize = 108;
+const ENTRIES: usize = 108;
 
 /// The entries that request P2 changed, and the one before them.
 pub const CHANGED: [(&str, usize); 3] = [
@@ -61,7 +62,7 @@ const EDGES: [&str; 12] = [
 ];
 
 /// The places inside a record of kind 8.
-pub const CUTS: usize = 9;
+const CUTS: usize = 9;
 
 /// What else is wrong with an effect whose last byte names no clock.
 const LAST_BYTES: [&str; 3] = ["nothing else", "another field", "the target (4)"];
@@ -81,9 +82,10 @@ pub struct Seen {
     /// Fires, by `EDGES`.
     edges: [u64; EDGES.len()],
     /// Records of kind 8 that a piece's end cuts, by the place of the cut.
-    pub cuts: [u64; CUTS],
+    cuts: [u64; CUTS],
     /// Refused effects of kind 8, by `LAST_BYTES`.
     last_bytes: [u64; LAST_BYTES.len()],
+    branchings: Curves,
 }
 
 impl Default for Seen {
@@ -96,6 +98,7 @@ impl Default for Seen {
             edges: [0; EDGES.len()],
             cuts: [0; CUTS],
             last_bytes: [0; LAST_BYTES.len()],
+            branchings: Curves::default(),
         }
     }
 }
@@ -107,18 +110,50 @@ pub struct Group<'a> {
     pub counts: &'a [u64],
 }
 
+impl Group<'_> {
+    pub fn new<'a>(
+        heading: &'static str,
+        names: &'static [&'static str],
+        counts: &'a [u64],
+    ) -> Group<'a> {
+        Group {
+            heading,
+            names,
+            counts,
+        }
+    }
+}
+
+/// Cases without names, each of which is to come up: what they are, what happens
+/// to them, and their counts.
+pub struct Set<'a> {
+    pub heading: &'static str,
+    pub happened: &'static str,
+    pub counts: &'a [u64],
+}
+
+impl Set<'_> {
+    pub fn new<'a>(heading: &'static str, happened: &'static str, counts: &'a [u64]) -> Set<'a> {
+        Set {
+            heading,
+            happened,
+            counts,
+        }
+    }
+}
+
 impl Seen {
     /// Adds another's counts by what becomes of each of them.
     pub fn add(&mut self, other: &Seen, counted: impl Fn(u64) -> u64) {
-        for (sums, counts) in self.all_mut().into_iter().zip(other.all()) {
+        for (sums, counts) in self.all_mut().zip(other.all()) {
             for (sum, &count) in sums.iter_mut().zip(counts) {
                 *sum += counted(count);
             }
         }
     }
 
-    fn all(&self) -> [&[u64]; 7] {
-        [
+    fn all(&self) -> impl Iterator<Item = &[u64]> {
+        let effects: [&[u64]; 7] = [
             &self.spheres,
             &self.entries,
             &self.forms,
@@ -126,11 +161,12 @@ impl Seen {
             &self.edges,
             &self.cuts,
             &self.last_bytes,
-        ]
+        ];
+        effects.into_iter().chain(self.branchings.all())
     }
 
-    fn all_mut(&mut self) -> [&mut [u64]; 7] {
-        [
+    fn all_mut(&mut self) -> impl Iterator<Item = &mut [u64]> {
+        let effects: [&mut [u64]; 7] = [
             &mut self.spheres,
             &mut self.entries,
             &mut self.forms,
@@ -138,23 +174,39 @@ impl Seen {
             &mut self.edges,
             &mut self.cuts,
             &mut self.last_bytes,
-        ]
+        ];
+        effects.into_iter().chain(self.branchings.all_mut())
     }
 
     /// The cases that have names.
-    pub fn groups(&self) -> [Group<'_>; 5] {
-        let group = |heading, names, counts| Group {
-            heading,
-            names,
-            counts,
-        };
-        [
-            group("class 2 in a fire", &SPHERES, &self.spheres[..]),
-            group("effect", &FORMS, &self.forms[..]),
-            group("mixed outcome", &MIXED, &self.mixed[..]),
-            group("chance by the clock", &EDGES, &self.edges[..]),
-            group("last byte refused", &LAST_BYTES, &self.last_bytes[..]),
-        ]
+    pub fn groups(&self) -> Vec<Group<'_>> {
+        let mut groups = vec![
+            Group::new("class 2 in a fire", &SPHERES, &self.spheres),
+            Group::new("effect", &FORMS, &self.forms),
+            Group::new("mixed outcome", &MIXED, &self.mixed),
+            Group::new("chance by the clock", &EDGES, &self.edges),
+            Group::new("last byte refused", &LAST_BYTES, &self.last_bytes),
+        ];
+        groups.extend(self.branchings.groups());
+        groups
+    }
+
+    /// The cases that have none.
+    pub fn sets(&self) -> Vec<Set<'_>> {
+        let mut sets = vec![
+            Set::new(
+                "entries of the probit table",
+                "gave a chance",
+                &self.entries,
+            ),
+            Set::new(
+                "places inside a record of kind 8",
+                "were a piece's end",
+                &self.cuts,
+            ),
+        ];
+        sets.extend(self.branchings.sets());
+        sets
     }
 
     /// One effect of an outcome on a target.
@@ -215,12 +267,12 @@ impl Seen {
             _ => {}
         }
     }
+}
 
-    /// A record of kind 8 at a place, and the ends of the pieces.
-    fn cut(&mut self, place: usize, ends: &[usize]) {
-        for (inside, cuts) in (place + 1..).zip(&mut self.cuts) {
-            *cuts += u64::from(ends.binary_search(&inside).is_ok());
-        }
+/// Counts the places inside a record at which a piece ends.
+pub fn count_cuts(cuts: &mut [u64], place: usize, ends: &[usize]) {
+    for (inside, cuts) in (place + 1..).zip(cuts) {
+        *cuts += u64::from(ends.binary_search(&inside).is_ok());
     }
 }
 
@@ -258,24 +310,37 @@ const fn entry(chance: u32) -> usize {
     place as usize
 }
 
-/// The effects of the study that a list of calls closes, or the refusal of a
-/// last byte. A study that is not closed has no effects.
+/// The effects and branchings of the study that a list of calls closes, or the
+/// refusal of a last byte or of a branching. A study that is not closed has no
+/// others.
 pub fn count(calls: &[u8]) -> Seen {
     let (bytes, ends) = pieces(calls);
     let mut seen = Seen::default();
     let mut study = Study::new();
     let last = study.piece(&bytes);
     if study.totals().figures.is_some() {
-        effects(&mut seen, &bytes, &ends);
-    } else if let Some(case) = last_byte(&bytes, last) {
-        seen.last_bytes[case] += 1;
+        closed(&mut seen, &bytes, &ends);
+    } else if let Some(record) = refused_record(&bytes, last) {
+        if let Some(case) = last_byte(&bytes, last) {
+            seen.last_bytes[case] += 1;
+        }
+        if record[0] == record::CURVE_BRANCHING {
+            seen.branchings.refusal(record, last.number);
+        }
     }
     seen
 }
 
-/// The effects of a closed study.
-fn effects(seen: &mut Seen, bytes: &[u8], ends: &[usize]) {
+/// The whole record that a study was refused for.
+fn refused_record(bytes: &[u8], refusal: Answer) -> Option<&[u8]> {
+    let place = usize::try_from(refusal.place).ok()?;
+    first_record(bytes.get(place..)?)
+}
+
+/// The effects and branchings of a closed study.
+fn closed(seen: &mut Seen, bytes: &[u8], ends: &[usize]) {
     let mut targets = Vec::new();
+    let mut tree = Tree::default();
     let (mut kind, mut forms) = (outcome::NO_EFFECT, 0);
     let mut place = 0;
     while let Some(record) = first_record(&bytes[place..]) {
@@ -294,8 +359,9 @@ fn effects(seen: &mut Seen, bytes: &[u8], ends: &[usize]) {
             forms |= 1 << timing as u8;
         }
         if record[0] == record::TIMED_EFFECT {
-            seen.cut(place, ends);
+            count_cuts(&mut seen.cuts, place, ends);
         }
+        tree.record(&mut seen.branchings, record, place, ends);
         if record[0] == record::CLOSING {
             break;
         }
@@ -306,13 +372,13 @@ fn effects(seen: &mut Seen, bytes: &[u8], ends: &[usize]) {
 /// Which of `LAST_BYTES` a study was refused for; none where it was refused for
 /// something else, or not at all.
 fn last_byte(bytes: &[u8], refusal: Answer) -> Option<usize> {
-    let place = usize::try_from(refusal.place).ok()?;
-    let record = first_record(bytes.get(place..)?)?;
+    let record = refused_record(bytes, refusal)?;
     let timed = record[0] == record::TIMED_EFFECT && Timing::of(record).is_none();
     if refusal.number != answer::FIELD || !timed {
         return None;
     }
     // What else is wrong is answered where the last byte is 0.
+    let place = refusal.place as usize;
     let mut study = Study::new();
     study.piece(&bytes[..place + CUTS]);
     match study.piece(&[0]).number {
@@ -360,7 +426,7 @@ mod tests {
         records.push(studies::closing(records.len() as u32 + 1, leaks));
         let mut calls = Vec::new();
         for record in &records {
-            assert_eq!(count(&calls).all().concat().iter().sum::<u64>(), 0);
+            assert_eq!(count(&calls).all().flatten().sum::<u64>(), 0);
             lists::one_target(&mut calls, 1);
             piece(&mut calls, record);
         }
@@ -548,18 +614,149 @@ mod tests {
         assert_eq!(of(studies::effect(0, 1, 0)), [0; 3]);
     }
 
+    /// The counts of `Curves`, in its order.
+    fn branchings(seen: &Seen) -> [&[u64]; 6] {
+        seen.branchings.all()
+    }
+
+    /// A tree with branchings of these kinds, each in the second branch of the one
+    /// before, after an opening and a leak of 1.
+    fn tree(kinds: &[u8]) -> Vec<Record> {
+        let mut records = front(0, 0, 0);
+        for kind in kinds {
+            records.push(match kind {
+                4 => studies::branching(1),
+                _ => studies::curve_branching(1, 1),
+            });
+            records.push(studies::outcome(0, 0));
+        }
+        records.push(studies::outcome(0, 0));
+        records
+    }
+
     #[test]
-    fn the_lists_have_effects_of_every_sort() {
+    fn trees_of_one_study() {
+        let of = |kinds: &[u8]| branchings(&count(&calls(tree(kinds), 1)))[0].to_vec();
+        assert_eq!(of(&[]), [0, 0, 0, 0]);
+        assert_eq!(of(&[4]), [1, 0, 0, 0]);
+        assert_eq!(of(&[4; 8]), [1, 0, 0, 0]);
+        assert_eq!(of(&[10; 8]), [0, 1, 0, 0]);
+        assert_eq!(of(&[4, 10]), [0, 0, 1, 0]);
+        assert_eq!(of(&[10, 4, 4, 4, 4, 4, 4]), [0, 0, 1, 0]);
+        assert_eq!(of(&[4, 4, 4, 4, 4, 4, 4, 10]), [0, 0, 0, 1]);
+        // Eight branchings that are not one below the other, in two trees.
+        let mut records = tree(&[4, 10, 10]);
+        records.push(studies::leak(2, 1));
+        for _ in 0..4 {
+            records.push(studies::branching(1));
+        }
+        records.extend((0..2).map(|_| studies::outcome(0, 0)));
+        for _ in 0..4 {
+            records.push(studies::curve_branching(1, 1));
+        }
+        records.extend((0..7).map(|_| studies::outcome(0, 0)));
+        assert_eq!(branchings(&count(&calls(records, 2)))[0], [0, 0, 2, 0]);
+    }
+
+    #[test]
+    fn curves_and_rates_of_one_study() {
+        let mut records = front(0, 0, 0);
+        for (curve, rate) in [
+            (1, 1),
+            (2, 999),
+            (2, 1_000),
+            (13, 1_001),
+            (8, 5_000_000),
+            (8, 10_000_001),
+            (13, u32::MAX),
+        ] {
+            records.push(studies::curve_branching(curve, rate));
+            records.push(studies::outcome(0, 0));
+        }
+        records.push(studies::outcome(0, 0));
+        let seen = count(&calls(records, 1));
+        let [_, ends, _, chances, around, _] = branchings(&seen);
+        assert_eq!(ends, [2, 3, 2]);
+        let met = |counts: &[u64]| -> Vec<(usize, u64)> {
+            let counts = counts.iter().copied().enumerate();
+            counts.filter(|&(_, count)| count > 0).collect()
+        };
+        let of_curve = |curve: usize, column: usize| (curve - 1) * 13 + column;
+        let expected = [
+            (of_curve(1, 0), 1),
+            (of_curve(2, 0), 2),
+            (of_curve(8, 11), 1),
+            (of_curve(8, 12), 1),
+            (of_curve(13, 1), 1),
+            (of_curve(13, 12), 1),
+        ];
+        assert_eq!(met(chances), expected);
+        assert_eq!(chances.len(), of_curve(13, 12) + 1);
+        assert_eq!(met(around), [(0, 1), (1, 1), (2, 1), (34, 1), (38, 1)]);
+    }
+
+    #[test]
+    fn cuts_of_branchings() {
+        let mut records = tree(&[10, 4]);
+        records.push(studies::closing(records.len() as u32 + 1, 1));
+        let bytes = records.concat();
+        // The branching of kind 10 stands from 18 to 23.
+        for (size, expected) in [(1, [1; 5]), (20, [0, 1, 0, 0, 0]), (23, [0, 0, 0, 0, 1])] {
+            let mut calls = Vec::new();
+            for part in bytes.chunks(size) {
+                piece(&mut calls, part);
+            }
+            assert_eq!(branchings(&count(&calls))[5], expected, "{size}");
+        }
+    }
+
+    #[test]
+    fn branchings_refused() {
+        let of = |levels: usize, last: Record| {
+            let mut records = front(0, 0, 0);
+            records.extend((0..levels).map(|_| studies::branching(1)));
+            records.push(last);
+            let mut calls = Vec::new();
+            piece(&mut calls, &records.concat());
+            let seen = count(&calls);
+            let cases = branchings(&seen)[2].iter().zip(0..);
+            cases
+                .filter(|&(&count, _)| count == 1)
+                .map(|(_, case)| case)
+                .last()
+        };
+        let branching = studies::curve_branching;
+        assert_eq!(of(7, branching(0, 1)), Some(0));
+        assert_eq!(of(0, branching(14, 1)), Some(1));
+        assert_eq!(of(0, branching(255, 1)), Some(1));
+        assert_eq!(of(0, branching(13, 0)), Some(2));
+        assert_eq!(of(0, branching(0, 0)), Some(3));
+        assert_eq!(of(7, branching(14, 0)), Some(3));
+        assert_eq!(of(8, branching(13, 1)), Some(4));
+        assert_eq!(of(8, branching(0, 1)), Some(5));
+        assert_eq!(of(8, branching(1, 0)), Some(5));
+        let out_of_order = [studies::outcome(0, 0), branching(1, 1)].concat();
+        assert_eq!(of(0, out_of_order), Some(6));
+        // Taken, cut short, or of kind 4.
+        assert_eq!(of(7, branching(13, 1)), None::<usize>);
+        assert_eq!(of(8, branching(0, 0)[..5].to_vec()), None);
+        assert_eq!(of(8, studies::branching(1)), None);
+        assert_eq!(of(0, studies::branching(1_000_001)), None);
+    }
+
+    #[test]
+    fn the_lists_have_cases_of_every_sort() {
         let mut lists = Seen::default();
         for index in 0..2_000 {
             lists.add(&count(&lists::list(3, index)), |count| count.min(1));
         }
-        let Seen { entries, cuts, .. } = lists;
-        assert!(entries.iter().all(|&lists| lists > 4), "{entries:?}");
-        assert!(cuts.iter().all(|&lists| lists > 80), "{cuts:?}");
-        let least = [80, 200, 60, 7, 4];
-        for (group, least) in lists.groups().iter().zip(least) {
-            let (heading, counts) = (group.heading, group.counts);
+        let sets = lists.sets();
+        let sets = sets.iter().map(|set| (set.heading, set.counts));
+        let groups = lists.groups();
+        let groups = groups.iter().map(|group| (group.heading, group.counts));
+        let least = [4, 80, 4, 20, 60, 80, 200, 60, 7, 4, 60, 150, 2];
+        assert_eq!(sets.len() + groups.len(), least.len());
+        for ((heading, counts), least) in sets.chain(groups).zip(least) {
             let enough = counts.iter().all(|&lists| lists > least);
             assert!(enough, "{heading}: {counts:?}");
         }

@@ -1,7 +1,8 @@
 //! Faults put into valid studies, aimed at each refusal, and fuzzed bytes.
 
+use crate::branchings;
 use crate::random::Random;
-use crate::studies::{self, Record};
+use crate::studies::{self, Record, set};
 use second_desk::record::{self, outcome};
 
 /// Puts one to three faults into a valid study, often into the same record.
@@ -35,7 +36,7 @@ fn fault(random: &mut Random, records: &mut Vec<Record>, place: usize) {
 }
 
 fn unknown_kind(random: &mut Random, records: &mut Vec<Record>, place: usize) {
-    let kind = random.pick(&[0, 9, 11, 15, 16, 127, 128, 134, 136, 255]);
+    let kind = random.pick(&[0, 9, 11, 15, 16, 127, 128, 134, 136, 138, 255]);
     if random.percent(50) {
         records[place][0] = kind;
     } else {
@@ -64,7 +65,7 @@ fn order(random: &mut Random, records: &mut Vec<Record>, place: usize) {
 
 /// A record of any kind with fields of all sizes.
 fn any_record(random: &mut Random) -> Record {
-    match random.between(1, 8) as u8 {
+    match random.pick(&[1, 2, 3, 4, 5, 6, 7, 8, 10]) {
         record::OPENING => studies::opening(random.any_size(32) as u32),
         record::TARGET => studies::target(
             random.below(4) as u16,
@@ -74,6 +75,9 @@ fn any_record(random: &mut Random) -> Record {
         ),
         record::LEAK => studies::leak(random.any_size(32) as u32, random.any_size(46)),
         record::BRANCHING => studies::branching(random.any_size(21) as u32),
+        record::CURVE_BRANCHING => {
+            studies::curve_branching(random.below(15) as u8, random.any_size(32) as u32)
+        }
         record::OUTCOME => studies::outcome(random.below(7) as u8, random.any_size(9) as u16),
         record::EFFECT => studies::effect(
             random.below(4) as u16,
@@ -112,7 +116,7 @@ fn outcome_before(records: &[Record], place: usize) -> u8 {
 
 /// A field just outside its bounds, or far outside, or at a limit.
 fn field_near(random: &mut Random, records: &mut [Record], place: usize) {
-    let kinds = [2, 3, 4, 5, 6, 8];
+    let kinds = [2, 3, 4, 5, 6, 8, 10];
     let kind = random.pick(&kinds);
     let Some(place) = find(records, place, &[kind]).or_else(|| find(records, place, &kinds)) else {
         return;
@@ -134,10 +138,8 @@ fn field_near(random: &mut Random, records: &mut [Record], place: usize) {
             let frequency = random.pick(&[0, 0, most + 1, most + 2, 1 << 63, u64::MAX, 1, most]);
             set(bytes, 5, 8, frequency);
         }
-        record::BRANCHING => {
-            let chance = random.pick(&[1_000_001, 1_000_002, u64::from(u32::MAX), 1_000_000]);
-            set(bytes, 1, 4, chance);
-        }
+        record::BRANCHING if random.percent(25) => set(bytes, 1, 4, 1_000_000),
+        record::BRANCHING | record::CURVE_BRANCHING => branchings::spoil(random, bytes),
         record::OUTCOME => match random.below(3) {
             0 => bytes[1] = random.pick(&[6, 7, 255]),
             1 => set(bytes, 2, 2, random.pick(&[257, 258, 65_535, 512])),
@@ -198,15 +200,10 @@ fn number_near(random: &mut Random, records: &mut [Record], place: usize) {
     set(bytes, 1, width, new);
 }
 
-/// Writes a number's low bytes, most significant first.
-fn set(bytes: &mut [u8], place: usize, width: usize, number: u64) {
-    bytes[place..place + width].copy_from_slice(&number.to_be_bytes()[8 - width..]);
-}
-
 /// Branchings before an outcome, so that the tree gets too deep, or nearly.
 fn level(random: &mut Random, records: &mut Vec<Record>) {
     let place = random.index(records.len());
-    let kinds = [record::OUTCOME, record::BRANCHING];
+    let kinds = [record::OUTCOME, record::BRANCHING, record::CURVE_BRANCHING];
     let Some(place) = find(records, place, &kinds) else {
         return;
     };
@@ -214,15 +211,14 @@ fn level(random: &mut Random, records: &mut Vec<Record>) {
     let complete = random.percent(30);
     let deepest_faulty = random.percent(30);
     for added in 0..random.pick(&[1, 2, 4, 7, 8, 9, 9, 9, 10]) {
-        let chance = if added == 0 && deepest_faulty {
-            1_000_001
-        } else {
-            studies::chance_of_branch(random)
-        };
+        let mut branching = branchings::valid(random, None);
+        if added == 0 && deepest_faulty {
+            branchings::spoil(random, &mut branching);
+        }
         if complete {
             records.insert(place, studies::outcome(0, 0));
         }
-        records.insert(place, studies::branching(chance));
+        records.insert(place, branching);
     }
 }
 

@@ -4,11 +4,12 @@
 //! The exact sum is counted in parts of 10^-54 of a unit: a leak weighs its
 //! frequency times 10^48, an effect adds weight times chance.
 
+use crate::branchings::Form;
 use crate::coverage;
 use crate::random::Random;
 use crate::studies::{self, Record, number};
 use crate::timing::Timing;
-use second_desk::{Study, record};
+use second_desk::{Study, ignition, record};
 
 const MILLION: u64 = 1_000_000;
 
@@ -113,8 +114,8 @@ fn exact(records: &[Record]) -> Exact<'_> {
 impl Exact<'_> {
     fn tree(&mut self, weight: Large, above: u64) {
         let record = self.rest.next().expect("a tree");
-        if record[0] == record::BRANCHING {
-            let first = weight.times(number(record, 1, 4)).divided(MILLION);
+        if let Some(chance) = chance_of_branch(record) {
+            let first = weight.times(chance).divided(MILLION);
             self.tree(first, above + 1);
             self.tree(weight.minus(first), above + 1);
             return;
@@ -128,6 +129,14 @@ impl Exact<'_> {
             self.sums[target] = self.sums[target].plus(part);
             self.margins[target] += above + 1;
         }
+    }
+}
+
+/// The chance of a branching's first branch; none where a record is none.
+fn chance_of_branch(record: &[u8]) -> Option<u64> {
+    match Form::of(record)? {
+        Form::Chance => Some(number(record, 1, 4)),
+        Form::Curve => ignition::chance(record[1], number(record, 2, 4) as u32).map(u64::from),
     }
 }
 

@@ -1,5 +1,6 @@
 //! A few large studies at the bounds and one beyond.
 
+use crate::branchings;
 use crate::lists::{domino, one_target, piece};
 use crate::random::Random;
 use crate::studies::{self, Facts, Record};
@@ -151,7 +152,7 @@ fn scenarios(random: &mut Random, count: u32) -> Open {
     let mut open = targets(3);
     for number in 0..count {
         open.leak(number, studies::frequency(random));
-        open.push(studies::branching(studies::chance_of_branch(random)));
+        open.push(branchings::valid(random, None));
         open.push(studies::outcome(0, 0));
         open.push(studies::outcome(5, 1));
         open.push(studies::effect(1, 70_000, 0));

@@ -1,7 +1,9 @@
 //! Runs lists of calls through this implementation and through the first
 //! one's replay program, and compares the lines.
 
+mod branchings;
 mod coverage;
+mod curves;
 mod damage;
 #[cfg(test)]
 mod exact;
@@ -78,8 +80,8 @@ struct Tally {
     numbers: [u64; 11],
     /// Lists in which each number was answered.
     lists: [u64; 11],
-    /// Effects by what the rules say of them, in closed studies of lists that
-    /// agreed, and the lists that have them.
+    /// Effects and branchings by what the rules say of them, in lists that agreed,
+    /// and the lists that have them.
     seen: Seen,
     seen_lists: Seen,
     bad_calls: u64,
@@ -242,17 +244,13 @@ fn cases(seen: &Seen, lists_with: &Seen) -> bool {
         let (count, lists) = (seen.entries[i], lists_with.entries[i]);
         println!("chance of damage:     {count:9} in {lists:7} lists  {words}");
     }
-    let met = |counts: &[u64]| counts.iter().filter(|&&count| count > 0).count();
-    let (entries, cuts) = (met(&seen.entries), met(&seen.cuts));
-    println!(
-        "entries of the probit table: {entries} of {} gave a chance",
-        coverage::ENTRIES
-    );
-    println!(
-        "places inside a record of kind 8: {cuts} of {} were a piece's end",
-        coverage::CUTS
-    );
-    all && entries == coverage::ENTRIES && cuts == coverage::CUTS
+    for set in seen.sets() {
+        let met = set.counts.iter().filter(|&&count| count > 0).count();
+        let length = set.counts.len();
+        println!("{}: {met} of {length} {}", set.heading, set.happened);
+        all &= met == length;
+    }
+    all
 }
 
 fn summary(options: &Options, tally: &Tally, seconds: f64) -> bool {

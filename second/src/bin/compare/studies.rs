@@ -1,5 +1,6 @@
 //! Valid studies of all shapes, with values at and around the rules' limits.
 
+use crate::branchings::{self, Form};
 use crate::random::Random;
 use crate::timing::{self, Timing};
 use second_desk::chance::{self, Clock};
@@ -35,6 +36,11 @@ pub fn branching(chance: u32) -> Record {
     [&[record::BRANCHING][..], &chance.to_be_bytes()].concat()
 }
 
+/// A branching by an ignition curve at a release rate.
+pub fn curve_branching(curve: u8, rate: u32) -> Record {
+    [&[record::CURVE_BRANCHING, curve][..], &rate.to_be_bytes()].concat()
+}
+
 pub fn outcome(kind: u8, effects: u16) -> Record {
     [&[record::OUTCOME, kind][..], &effects.to_be_bytes()].concat()
 }
@@ -66,6 +72,11 @@ pub fn closing(count: u32, sum: u64) -> Record {
 pub fn number(record: &[u8], from: usize, width: usize) -> u64 {
     let bytes = &record[from..from + width];
     bytes.iter().fold(0, |n, &byte| n << 8 | u64::from(byte))
+}
+
+/// Writes a number's low bytes, most significant first.
+pub fn set(record: &mut [u8], from: usize, width: usize, number: u64) {
+    record[from..from + width].copy_from_slice(&number.to_be_bytes()[8 - width..]);
 }
 
 /// What a target is, as far as its effects depend on it.
@@ -100,6 +111,8 @@ pub struct Maker<'a> {
     leaks: u64,
     /// At most this many effects an outcome.
     most_effects: u64,
+    /// The form of the tree's branchings.
+    form: Option<Form>,
 }
 
 /// A valid study, its closing included.
@@ -111,6 +124,7 @@ pub fn valid(random: &mut Random) -> Vec<Record> {
         records: Vec::new(),
         leaks: 0,
         most_effects,
+        form: None,
     };
     maker.study();
     maker.records
@@ -198,6 +212,7 @@ impl Maker<'_> {
             7 => Shape::Second(level),
             _ => Shape::Either(level),
         };
+        self.form = branchings::of_tree(self.random);
         self.tree(shape, 0);
     }
 
@@ -211,8 +226,8 @@ impl Maker<'_> {
             self.outcome();
             return;
         }
-        let chance = chance_of_branch(self.random);
-        self.records.push(branching(chance));
+        let branching = branchings::valid(self.random, self.form);
+        self.records.push(branching);
         let first = match shape {
             Shape::Spread(_) => {
                 self.tree(shape, above + 1);
@@ -274,14 +289,6 @@ pub fn frequency(random: &mut Random) -> u64 {
         _ => random.any_size(43),
     };
     frequency.clamp(1, 10_000_000_000_000)
-}
-
-pub fn chance_of_branch(random: &mut Random) -> u32 {
-    match random.below(3) {
-        0 => random.pick(&[0, 1, 2, 500_000, 333_333, 999_998, 999_999, 1_000_000]),
-        1 => random.between(0, 1_000_000) as u32,
-        _ => random.any_size(19) as u32,
-    }
 }
 
 /// A valid effect of an outcome whose effects have this timing, or each one its
