@@ -1,6 +1,7 @@
 //! The kinds of record: their words, their fields, and the bounds and units
 //! that the rules give each field.
 
+use crate::rate;
 use std::fmt;
 
 /// Kind bytes.
@@ -13,6 +14,8 @@ pub(crate) const EFFECT: u8 = 6;
 pub(crate) const CLOSING: u8 = 7;
 /// An effect with a last byte that names the unit of its duration.
 pub(crate) const TIMED_EFFECT: u8 = 8;
+/// A branching that names an ignition curve and a release rate.
+pub(crate) const CURVE_BRANCHING: u8 = 10;
 
 /// The word of a line of bytes that are no whole record.
 pub(crate) const RAW: &str = "raw";
@@ -62,14 +65,18 @@ pub(crate) enum Rule {
     Duration(&'static str),
     /// An effect's last byte.
     LastByte,
+    /// A release rate, which a text gives in kilograms or grams per second.
+    Rate,
 }
 
-/// The least and the greatest number of a field, and their unit in words.
+/// The least and the greatest number of a field, their unit in words, and the rule
+/// that they are of.
 #[derive(Clone, Copy)]
 pub(crate) struct Bounds {
     least: u64,
     most: u64,
     unit: &'static str,
+    rule: Rule,
 }
 
 impl Bounds {
@@ -85,11 +92,12 @@ impl Bounds {
 
 impl fmt::Display for Bounds {
     fn fmt(&self, f: &mut fmt::Formatter) -> fmt::Result {
-        let Bounds { least, most, unit } = self;
-        match most - least {
+        let unit = self.unit;
+        let [least, most] = [self.least, self.most].map(|number| self.rule.text(number));
+        match self.most - self.least {
             0 => write!(f, "{least}{unit}"),
             1 => write!(f, "{least} or {most}{unit}"),
-            _ if *most == 10_u64.pow(13) => write!(f, "{least} to 10^13{unit}"),
+            _ if self.most == 10_u64.pow(13) => write!(f, "{least} to 10^13{unit}"),
             _ => write!(f, "{least} to {most}{unit}"),
         }
     }
@@ -119,8 +127,22 @@ impl Rule {
                 _ => (0, u16::MAX.into(), unit),
             },
             Rule::LastByte => (0, 1, " (0 seconds, 1 tenths of a second)"),
+            Rule::Rate => (1, u32::MAX.into(), ""),
         };
-        Bounds { least, most, unit }
+        Bounds {
+            least,
+            most,
+            unit,
+            rule: self,
+        }
+    }
+
+    /// A number of the field as a text has it.
+    pub(crate) fn text(self, number: u64) -> String {
+        match self {
+            Rule::Rate => rate::text(number),
+            _ => number.to_string(),
+        }
     }
 }
 
@@ -160,10 +182,10 @@ const fn word(name: &'static str, words: &'static [&'static str], rule: Rule) ->
     }
 }
 
-/// A kind of record: its byte, the word its line starts with, its fields.
+/// A kind of record: its byte, the words its line starts with, its fields.
 pub(crate) struct Form {
     pub(crate) kind: u8,
-    pub(crate) word: &'static str,
+    pub(crate) start: &'static str,
     pub(crate) fields: &'static [Field],
 }
 
@@ -171,6 +193,18 @@ impl Form {
     /// The length of a record, its kind byte included.
     pub(crate) fn length(&self) -> usize {
         1 + self.fields.iter().map(|field| field.width).sum::<usize>()
+    }
+
+    /// The first word of its line.
+    fn word(&self) -> &'static str {
+        self.start.split(' ').next().unwrap_or_default()
+    }
+
+    /// The values in the words of a line that starts as the form's; none where it
+    /// starts otherwise.
+    pub(crate) fn values<'a>(&self, line: &'a [&'a str]) -> Option<&'a [&'a str]> {
+        let mut words = self.start.split(' ');
+        words.try_fold(line, |rest, word| rest.strip_prefix(&[word]))
     }
 
     /// The numbers in the fields of a whole record.
@@ -186,17 +220,17 @@ impl Form {
     }
 }
 
-/// The forms by kind. A line that starts with a word has the first form of that
-/// word, but for an effect whose duration has a unit.
-pub(crate) const FORMS: [Form; 8] = [
+/// The forms by kind. A line has the form that it shares the most words with, of
+/// two that start alike the first, but for an effect whose duration has a unit.
+pub(crate) const FORMS: [Form; 9] = [
     Form {
         kind: OPENING,
-        word: "study",
+        start: "study",
         fields: &[number("number", 4, Rule::Range(0, u32::MAX as u64, ""))],
     },
     Form {
         kind: TARGET,
-        word: "target",
+        start: "target",
         fields: &[
             number("number", 2, Rule::Numbering(255)),
             word("class", &CLASSES, Rule::Range(0, 5, "")),
@@ -206,7 +240,7 @@ pub(crate) const FORMS: [Form; 8] = [
     },
     Form {
         kind: LEAK,
-        word: "leak",
+        start: "leak",
         fields: &[
             number("scenario", 4, Rule::Numbering(u32::MAX as u64)),
             number(
@@ -218,7 +252,7 @@ pub(crate) const FORMS: [Form; 8] = [
     },
     Form {
         kind: BRANCHING,
-        word: "branching",
+        start: "branching",
         fields: &[number(
             "chance",
             4,
@@ -227,7 +261,7 @@ pub(crate) const FORMS: [Form; 8] = [
     },
     Form {
         kind: OUTCOME,
-        word: "outcome",
+        start: "outcome",
         fields: &[
             word("kind", &OUTCOMES, Rule::Range(0, 5, "")),
             number("effects", 2, Rule::Effects),
@@ -235,7 +269,7 @@ pub(crate) const FORMS: [Form; 8] = [
     },
     Form {
         kind: EFFECT,
-        word: "effect",
+        start: "effect",
         fields: &[
             number("target", 2, Rule::Numbering(u16::MAX as u64)),
             number("intensity", 4, Rule::Intensity),
@@ -244,7 +278,7 @@ pub(crate) const FORMS: [Form; 8] = [
     },
     Form {
         kind: CLOSING,
-        word: "closing",
+        start: "closing",
         fields: &[
             number("count", 4, Rule::Range(0, u32::MAX as u64, "")),
             number("sum", 8, Rule::Range(0, u64::MAX, FREQUENCY_UNIT)),
@@ -252,12 +286,20 @@ pub(crate) const FORMS: [Form; 8] = [
     },
     Form {
         kind: TIMED_EFFECT,
-        word: "effect",
+        start: "effect",
         fields: &[
             number("target", 2, Rule::Numbering(u16::MAX as u64)),
             number("intensity", 4, Rule::Intensity),
             number("duration", 2, Rule::Duration(", in seconds or tenths")),
             number("last byte", 1, Rule::LastByte),
+        ],
+    },
+    Form {
+        kind: CURVE_BRANCHING,
+        start: "branching curve",
+        fields: &[
+            number("curve", 1, Rule::Range(1, 13, "")),
+            number("rate", 4, Rule::Rate),
         ],
     },
 ];
@@ -284,12 +326,12 @@ pub(crate) fn last_byte_of(unit: &str) -> Option<&str> {
     }
 }
 
-/// The words of some forms, each one once.
+/// The first words of some forms, each one once.
 pub(crate) fn words_of<'a>(forms: impl Iterator<Item = &'a Form>) -> Vec<&'static str> {
     let mut words = Vec::new();
-    for form in forms {
-        if !words.contains(&form.word) {
-            words.push(form.word);
+    for word in forms.map(Form::word) {
+        if !words.contains(&word) {
+            words.push(word);
         }
     }
     words
@@ -319,6 +361,7 @@ mod tests {
             (6, 9),
             (7, 13),
             (8, 10),
+            (10, 6),
         ];
         assert_eq!(lengths, expected);
     }

@@ -6,6 +6,7 @@
 //! | `target NUMBER CLASS SETTING VOLUME` | target |
 //! | `leak SCENARIO FREQUENCY` | leak |
 //! | `branching CHANCE` | branching |
+//! | `branching curve CURVE RATE` | branching of kind 10; a rate has its unit, as `500kg/s` |
 //! | `outcome KIND EFFECTS` | outcome |
 //! | `effect TARGET INTENSITY DURATION` | effect; of kind 8 with a unit, as `20s`, `200t` |
 //! | `closing` or `closing COUNT SUM` | closing |
@@ -19,6 +20,7 @@
 mod form;
 pub mod output;
 mod parts;
+mod rate;
 mod read;
 #[cfg(feature = "desk")]
 mod reason;

@@ -5,6 +5,7 @@ use crate::form::{
     last_byte_of, words_of,
 };
 use crate::parts::parts;
+use crate::rate;
 use std::fmt;
 
 /// The numbers that a text may have.
@@ -93,15 +94,17 @@ struct Writer {
 
 impl Writer {
     fn line(&mut self, words: &[&str]) -> Result<(), String> {
-        let Some((&first, values)) = words.split_first() else {
+        let Some((&first, rest)) = words.split_first() else {
             return Ok(());
         };
         if first == RAW {
-            return self.raw(values);
+            return self.raw(rest);
         }
-        let form = FORMS
+        let forms = FORMS
             .iter()
-            .find(|form| form.word == first)
+            .filter_map(|form| Some((form, form.values(words)?)));
+        let (form, values) = forms
+            .min_by_key(|(_, values)| values.len())
             .ok_or_else(|| unknown_word(first))?;
         if form.kind == CLOSING && values.is_empty() {
             return self.closing();
@@ -167,36 +170,28 @@ impl Writer {
         }
     }
 
-    /// The number that a word or digits stand for, after these fields of the
-    /// same record.
+    /// The number that a value stands for, after these fields of the same record.
     fn number(&self, field: &Field, earlier: &[u64], value: &str) -> Result<u64, String> {
-        let digits = value.bytes().all(|byte| byte.is_ascii_digit());
-        let word = field.words.iter().position(|word| *word == value);
-        let number = match word {
-            Some(position) => Some(position as u64),
-            None if digits => value.parse().ok(),
-            None => None,
-        };
         let bounds = field.rule.bounds(earlier, self.outcome);
-        let (expected, single) = self.expected(field, earlier);
-        let allowed = |&number: &u64| match self.limits {
+        let allowed = |number| match self.limits {
             Limits::Rules => bounds.allow(number),
             Limits::Bytes => number <= field.most(),
         };
-        number.filter(allowed).ok_or_else(|| {
-            let words = match field.words {
-                [] => String::new(),
-                _ if single => String::new(),
-                words => format!("{} or ", words.join(", ")),
-            };
-            let form = if digits || !field.words.is_empty() {
-                ""
-            } else {
-                ", in digits alone"
-            };
-            let (name, value) = (field.name, value.escape_debug());
-            format!("{name}: expected {words}{expected}{form}, found '{value}'")
-        })
+        let form = match number_of(field, value) {
+            Ok(number) if allowed(number) => return Ok(number),
+            Ok(_) => "",
+            Err(form) => form,
+        };
+        let (expected, single) = self.expected(field, earlier);
+        let words = match field.words {
+            [] => String::new(),
+            _ if single => String::new(),
+            words => format!("{} or ", words.join(", ")),
+        };
+        let (name, value) = (field.name, value.escape_debug());
+        Err(format!(
+            "{name}: expected {words}{expected}{form}, found '{value}'"
+        ))
     }
 
     /// The numbers that a field may have, in words, and whether it is one alone.
@@ -204,7 +199,10 @@ impl Writer {
         let bounds = field.rule.bounds(earlier, self.outcome);
         match self.limits {
             Limits::Rules => (bounds.to_string(), bounds.single()),
-            Limits::Bytes => (format!("0 to {}", field.most()), false),
+            Limits::Bytes => {
+                let [least, most] = [0, field.most()].map(|number| field.rule.text(number));
+                (format!("{least} to {most}"), false)
+            }
         }
     }
 
@@ -249,16 +247,30 @@ impl Writer {
     }
 }
 
+/// The number that a field's word, a rate or digits stand for, or what is expected
+/// of the value's form. Nothing is expected of it where only words or fewer digits
+/// would do.
+fn number_of(field: &Field, value: &str) -> Result<u64, &'static str> {
+    let word = field.words.iter().position(|word| *word == value);
+    match word {
+        Some(position) => Ok(position as u64),
+        None if field.rule == Rule::Rate => rate::tenths(value),
+        None if value.bytes().all(|byte| byte.is_ascii_digit()) => value.parse().map_err(|_| ""),
+        None if field.words.is_empty() => Err(", in digits alone"),
+        None => Err(""),
+    }
+}
+
 fn unknown_word(word: &str) -> String {
     let words = words_of(FORMS.iter());
     let word = word.escape_debug();
     format!("expected {} or {RAW}, found '{word}'", words.join(", "))
 }
 
-/// The line of a form: its word and the names of its fields. A last byte is
+/// The line of a form: its words and the names of its fields. A last byte is
 /// part of the duration.
 fn layout(form: &Form) -> String {
-    let mut line = form.word.to_string();
+    let mut line = form.start.to_string();
     let fields = form.fields.iter();
     for field in fields.filter(|field| field.rule != Rule::LastByte) {
         line.push(' ');

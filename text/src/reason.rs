@@ -2,7 +2,8 @@
 //! the words are made from them and from the records before the place.
 
 use crate::form::{
-    BRANCHING, EFFECT, FORMS, Form, LEAK, OUTCOME, Rule, TARGET, TIMED_EFFECT, words_of,
+    BRANCHING, CURVE_BRANCHING, EFFECT, FORMS, Form, LEAK, OUTCOME, Rule, TARGET, TIMED_EFFECT,
+    words_of,
 };
 use crate::parts::{Part, bytes_in_words, parts};
 use riskdesk::{Answer, Study};
@@ -167,7 +168,10 @@ impl Before {
             let number = numbers[index];
             let bounds = field.rule.bounds(&numbers[..index], self.outcome);
             let outside = !matches!(field.rule, Rule::Numbering(_)) && !bounds.allow(number);
-            outside.then(|| format!("{}: expected {bounds}, found {number}", field.name))
+            outside.then(|| {
+                let found = field.rule.text(number);
+                format!("{}: expected {bounds}, found {found}", field.name)
+            })
         })
     }
 
@@ -197,7 +201,7 @@ impl Before {
             _ if self.records >= 1_000_000 => "1000000 records",
             TARGET => "256 targets",
             LEAK => "65536 scenarios",
-            BRANCHING => "7 branchings above a branching",
+            BRANCHING | CURVE_BRANCHING => "7 branchings above a branching",
             _ => return None,
         };
         Some(format!("at most {most}"))

@@ -148,7 +148,7 @@ impl<W: Write> Shower<'_, W> {
 
 /// The words of a whole record.
 fn record_words(form: &Form, record: &[u8]) -> String {
-    let mut line = form.word.to_string();
+    let mut line = form.start.to_string();
     let people = record[0] != TARGET || record[3] == 0;
     for (field, number) in form.fields.iter().zip(form.numbers(record)) {
         if field.rule == Rule::LastByte {
@@ -166,6 +166,6 @@ fn record_words(form: &Form, record: &[u8]) -> String {
 fn field_text(field: &Field, number: u64, people: bool) -> String {
     match field.words.get(number as usize) {
         Some(word) if people || field.name != "setting" => (*word).to_string(),
-        _ => number.to_string(),
+        _ => field.rule.text(number),
     }
 }

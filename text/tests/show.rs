@@ -111,10 +111,64 @@ fn every_last_byte_gives_itself_back() {
     }
 }
 
+/// The specimen with branchings by a curve: the first one, the second one or both.
+fn curve_specimens() -> [Vec<u8>; 3] {
+    let text = show(&specimen());
+    let first = |text: &str| text.replace("branching 100000 ", "branching curve 8 500kg/s ");
+    let second = |text: &str| text.replace("branching 250000 ", "branching curve 4 99.9999kg/s ");
+    [first(&text), second(&text), first(&second(&text))].map(|text| any(&text).unwrap())
+}
+
+#[test]
+fn branchings_by_a_curve() {
+    let [first, second, both] = curve_specimens();
+    for (bytes, kinds) in [(&first, [10, 4]), (&second, [4, 10]), (&both, [10, 10])] {
+        let place = if kinds[0] == 10 { 55 } else { 54 };
+        assert_eq!([bytes[36], bytes[place]], kinds);
+        let text = show(bytes);
+        assert_eq!(common::ruled(&text).as_ref(), Ok(bytes), "{text}");
+        let last = format!("# closed after {} bytes", bytes.len());
+        assert_eq!(last_line(&text), last);
+    }
+    let text = show(&both);
+    for line in [
+        "branching curve 8 500kg/s                   # at 36",
+        "branching curve 4 99.9999kg/s               # at 55",
+        "# closed after 100 bytes",
+    ] {
+        assert!(text.lines().any(|shown| shown == line), "{line}\n{text}");
+    }
+    // A branching of kind 4 is shown as before.
+    let line = "branching 100000                            # at 36";
+    assert!(show(&second).lines().any(|shown| shown == line));
+}
+
+#[test]
+fn every_curve_and_many_rates_give_themselves_back() {
+    let mut bytes = curve_specimens()[0].clone();
+    let around = |rate: u32| [rate - 1, rate, rate + 1];
+    let powers = (0..10).flat_map(|power| around(10_u32.pow(power)));
+    let rates: Vec<u32> = powers.chain([5_000_000, u32::MAX - 1, u32::MAX]).collect();
+    for curve in 0..=255 {
+        for rate in &rates {
+            bytes[37] = curve;
+            bytes[38..42].copy_from_slice(&rate.to_be_bytes());
+            let text = shown(&bytes, Extent::All);
+            assert_eq!(any(&text).as_ref(), Ok(&bytes), "{text}");
+            let good = (1..=13).contains(&curve) && *rate > 0;
+            assert_eq!(common::ruled(&text).is_ok(), good, "{text}");
+            assert_eq!(verdict(&bytes).number, if good { 0 } else { 3 });
+        }
+    }
+}
+
 #[test]
 fn any_bytes_give_themselves_back() {
     changed_bytes_give_themselves_back(specimen());
     changed_bytes_give_themselves_back(timed_specimen());
+    for bytes in curve_specimens() {
+        changed_bytes_give_themselves_back(bytes);
+    }
 }
 
 fn changed_bytes_give_themselves_back(mut bytes: Vec<u8>) {
@@ -122,7 +176,7 @@ fn changed_bytes_give_themselves_back(mut bytes: Vec<u8>) {
     for _ in 0..2_000 {
         state = state.wrapping_mul(1_664_525).wrapping_add(1_013_904_223);
         let place = (state >> 8) as usize % bytes.len();
-        bytes[place] = (state >> 24) as u8 % 10;
+        bytes[place] = (state >> 24) as u8 % 12;
         assert_eq!(any(&shown(&bytes, Extent::All)), Ok(bytes.clone()));
         let front = &bytes[..place];
         assert_eq!(any(&shown(front, Extent::All)), Ok(front.to_vec()));
@@ -162,7 +216,7 @@ fn the_examples_are_good() {
 
 /// A study that is refused: its lines after `study 1`, and what its last line
 /// says of it.
-const REFUSALS: [(&str, &str); 28] = [
+const REFUSALS: [(&str, &str); 34] = [
     (
         "raw 0b",
         "1 at 5, line 2 of this text: unknown kind byte: the byte 0b starts no record, \
@@ -208,6 +262,31 @@ const REFUSALS: [(&str, &str); 28] = [
         "leak 1 1\nbranching 1000001",
         "3 at 18, line 3 of this text: a field outside its bounds: \
          chance: expected 0 to 1000000, in millionths, found 1000001",
+    ),
+    (
+        "leak 1 1\nbranching curve 0 500kg/s",
+        "3 at 18, line 3 of this text: a field outside its bounds: \
+         curve: expected 1 to 13, found 0",
+    ),
+    (
+        "leak 1 1\nbranching curve 14 500kg/s",
+        "3 at 18, line 3 of this text: a field outside its bounds: \
+         curve: expected 1 to 13, found 14",
+    ),
+    (
+        "leak 1 1\nbranching curve 8 0kg/s",
+        "3 at 18, line 3 of this text: a field outside its bounds: \
+         rate: expected 0.0001kg/s to 429496.7295kg/s, found 0kg/s",
+    ),
+    (
+        "leak 1 1\nbranching curve 255 0kg/s",
+        "3 at 18, line 3 of this text: a field outside its bounds: \
+         curve: expected 1 to 13, found 255",
+    ),
+    (
+        "branching curve 0 0kg/s",
+        "2 at 5, line 2 of this text: a record that the order does not allow here: \
+         expected target or leak or closing",
     ),
     (
         "leak 1 1\noutcome no-effect 1",
@@ -293,6 +372,11 @@ const REFUSALS: [(&str, &str); 28] = [
          the last record is cut short, 9 of 10 bytes",
     ),
     (
+        "leak 1 1\nraw 0a 08 00 4c 4b",
+        "8 at 23, line 3 of this text: report asked before the closing record: \
+         the last record is cut short, 5 of 6 bytes",
+    ),
+    (
         "leak 1 1",
         "8 at 18, line 2 of this text: report asked before the closing record: \
          expected branching or outcome next",
@@ -323,6 +407,11 @@ fn each_refusal_has_its_reason() {
 #[test]
 fn one_too_many() {
     let deep = format!("leak 1 5\n{}", "branching 0\n".repeat(9));
+    // The level is judged before the curve.
+    let curves = format!(
+        "leak 1 5\n{}branching curve 0 0kg/s",
+        "branching curve 8 500kg/s\n".repeat(8)
+    );
     let targets: String = (0..257)
         .map(|number| format!("target {number} 0 0 0\n"))
         .collect();
@@ -331,6 +420,7 @@ fn one_too_many() {
         .collect();
     let cases = [
         (deep, "5 at 58, line 11", "7 branchings above a branching"),
+        (curves, "5 at 66, line 11", "7 branchings above a branching"),
         (targets, "5 at 2309, line 258", "256 targets"),
         (scenarios, "5 at 1114117, line 131074", "65536 scenarios"),
         (

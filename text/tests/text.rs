@@ -34,11 +34,20 @@ fn the_examples() {
 
 #[test]
 fn each_record_has_its_bytes() {
-    let records: [(&str, &[u8]); 13] = [
+    let records: [(&str, &[u8]); 19] = [
         ("study 7", &[1, 0, 0, 0, 7]),
         ("target 258 pipe 2 3", &[2, 1, 2, 5, 2, 0, 0, 0, 3]),
         ("leak 1 258", &[3, 0, 0, 0, 1, 0, 0, 0, 0, 0, 0, 1, 2]),
         ("branching 250000", &[4, 0, 3, 0xd0, 0x90]),
+        ("branching curve 8 500kg/s", &[10, 8, 0, 0x4c, 0x4b, 0x40]),
+        ("branching curve 13 0.1kg/s", &[10, 13, 0, 0, 3, 0xe8]),
+        ("branching curve 1 100g/s", &[10, 1, 0, 0, 3, 0xe8]),
+        ("branching curve 1 0.1g/s", &[10, 1, 0, 0, 0, 1]),
+        ("branching curve 0 0kg/s", &[10, 0, 0, 0, 0, 0]),
+        (
+            "branching curve 255 429496.7295kg/s",
+            &[10, 255, 255, 255, 255, 255],
+        ),
         ("outcome explosion 256", &[5, 5, 1, 0]),
         ("effect 1 70000 20", &[6, 0, 1, 0, 1, 0x11, 0x70, 0, 20]),
         ("effect 1 70000 20s", &[8, 0, 1, 0, 1, 0x11, 0x70, 0, 20, 0]),
@@ -68,6 +77,12 @@ fn a_closing_alone_and_one_given() {
     let closing = |line: &str| ruled(&format!("{front}{line}")).unwrap();
     assert_eq!(closing("closing"), closing("closing 4 7"));
     assert_ne!(closing("closing"), closing("closing 5 8"));
+    // Branchings by a curve are records as the others.
+    let branched = |line: &str| {
+        let lines = "branching curve 8 500kg/s\noutcome 0 0\noutcome 0 0";
+        ruled(&format!("study 1\nleak 1 7\n{lines}\n{line}")).unwrap()
+    };
+    assert_eq!(branched("closing"), branched("closing 6 7"));
     // Records that were given as bytes count too.
     let raw = "raw 01 00 00 00 01\nleak 1 7\nraw 05 00\nraw 00 00\nclosing";
     assert_eq!(ruled(raw).unwrap(), closing("closing"));
@@ -163,7 +178,7 @@ struct Edge {
     expected: &'static str,
 }
 
-const EDGES: [Edge; 20] = [
+const EDGES: [Edge; 23] = [
     Edge {
         line: "study {}",
         good: &["0", "4294967295"],
@@ -222,6 +237,32 @@ const EDGES: [Edge; 20] = [
         good: &["0", "1000000"],
         bad: &["1000001"],
         expected: "chance: expected 0 to 1000000, in millionths, found",
+    },
+    Edge {
+        line: "branching curve {} 500kg/s",
+        good: &["1", "13", "08"],
+        bad: &["0", "14", "255", "256", "18446744073709551616"],
+        expected: "curve: expected 1 to 13, found",
+    },
+    Edge {
+        line: "branching curve 8 {}",
+        good: &["0.0001kg/s", "0.1g/s", "1000kg/s", "429496.7295kg/s"],
+        bad: &[
+            "0kg/s",
+            "0.0g/s",
+            "429496.7296kg/s",
+            "429497kg/s",
+            "429496729.6g/s",
+            "18446744073709551616kg/s",
+        ],
+        expected: "rate: expected 0.0001kg/s to 429496.7295kg/s, found",
+    },
+    Edge {
+        line: "branching curve 8 {}",
+        good: &["0.1000000kg/s", "12.500g/s"],
+        bad: &["0.00005kg/s", "0.10001kg/s", "0.05g/s", "12.55g/s"],
+        expected: "rate: expected 0.0001kg/s to 429496.7295kg/s, in whole tenths of a gram per \
+                   second: at most 4 decimals in kg/s, 1 in g/s, found",
     },
     Edge {
         line: "outcome explosion {}",
@@ -334,6 +375,79 @@ fn units_of_durations() {
 }
 
 #[test]
+fn units_of_release_rates() {
+    let form = "in digits with or without a point and right after them kg/s or g/s";
+    for value in [
+        "500", "5000000", "kg/s", "500kg", "500kg/h", "500t/s", "500KG/S", ".5kg/s", "5.kg/s",
+        "-5kg/s", "+5kg/s", "1e3kg/s", "1,5kg/s", "x",
+    ] {
+        let line = format!("study 1\nbranching curve 8 {value}");
+        assert_eq!(
+            error(&line),
+            format!(
+                "line 2: rate: expected 0.0001kg/s to 429496.7295kg/s, {form}, found '{value}'"
+            )
+        );
+        assert_eq!(
+            any_error(&line),
+            format!("line 2: rate: expected 0kg/s to 429496.7295kg/s, {form}, found '{value}'")
+        );
+    }
+    // A unit is part of its rate's word.
+    assert!(error("branching curve 8 500 kg/s").ends_with("found '500'"));
+    assert_eq!(
+        any_error("branching curve 256 1kg/s"),
+        "line 1: curve: expected 0 to 255, found '256'"
+    );
+    assert_eq!(
+        any_error("branching curve 1 429496.7296kg/s"),
+        "line 1: rate: expected 0kg/s to 429496.7295kg/s, found '429496.7296kg/s'"
+    );
+}
+
+#[test]
+fn words_of_a_branching_by_a_curve() {
+    for value in ["x", "-1", "8.0", "eight"] {
+        assert_eq!(
+            error(&format!("branching curve {value} 500kg/s")),
+            format!("line 1: curve: expected 1 to 13, in digits alone, found '{value}'")
+        );
+    }
+    let layout = "line 1: expected branching curve CURVE RATE";
+    assert_eq!(
+        error("branching curve"),
+        format!("{layout}: the curve is missing")
+    );
+    assert_eq!(
+        error("branching curve 8"),
+        format!("{layout}: the rate is missing")
+    );
+    assert_eq!(
+        error("branching curve 8 500kg/s 1"),
+        format!("{layout} and nothing more, found '1'")
+    );
+    // The other form is as it was.
+    assert_eq!(
+        error("branching"),
+        "line 1: expected branching CHANCE: the chance is missing"
+    );
+    assert_eq!(
+        error("branching 8 500kg/s"),
+        "line 1: expected branching CHANCE and nothing more, found '500kg/s'"
+    );
+    for value in ["Curve", "curves", "500kg/s"] {
+        assert_eq!(
+            error(&format!("branching {value}")),
+            format!(
+                "line 1: chance: expected 0 to 1000000, in millionths, in digits alone, \
+                 found '{value}'"
+            )
+        );
+    }
+    assert!(error("curve 8 500kg/s").ends_with("found 'curve'"));
+}
+
+#[test]
 fn bounds_of_the_rules_are_errors() {
     for edge in EDGES {
         for value in edge.good {
@@ -356,6 +470,9 @@ fn any_number_that_fits_its_bytes() {
         "leak 1 0",
         "leak 1 18446744073709551615",
         "branching 4294967295",
+        "branching curve 0 1kg/s",
+        "branching curve 255 1kg/s",
+        "branching curve 8 0kg/s",
         "outcome 255 65535",
         "outcome flash-fire 1\neffect 0 2 65535",
         "outcome pool-fire 1\neffect 0 0 0",

@@ -38,6 +38,9 @@ A text has one record a line, and # starts a comment:
                                         indoors, equipment 0; m³
   leak SCENARIO FREQUENCY               in units of 10^-13 per year
   branching CHANCE                      of the first branch, in millionths
+  branching curve CURVE RATE            the chance of ignition by a curve, 1 to 13,
+                                        at a release rate, as 500kg/s, 0.35kg/s or
+                                        12.5g/s: a branching of kind 10
   outcome KIND EFFECTS                  no-effect, pool-fire, jet-fire, fireball,
                                         flash-fire, explosion; effects that follow
   effect TARGET INTENSITY DURATION      W/m², Pa, or 1 inside the lower flammable
