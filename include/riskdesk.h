@@ -73,7 +73,8 @@ enum riskdesk_record {
     RISKDESK_RECORD_OUTCOME = 5,
     RISKDESK_RECORD_EFFECT = 6,
     RISKDESK_RECORD_CLOSING = 7,
-    RISKDESK_RECORD_TIMED_EFFECT = 8 /* an effect with a last byte, enum riskdesk_unit */
+    RISKDESK_RECORD_TIMED_EFFECT = 8,    /* an effect with a last byte, enum riskdesk_unit */
+    RISKDESK_RECORD_CURVE_BRANCHING = 10 /* by an ignition curve; the rate in tenths of a gram per second */
 };
 
 /* The units of a duration: the last byte of a timed effect. Effects of kind 6 are in seconds. */
@@ -117,6 +118,7 @@ enum riskdesk_outcome {
 #define RISKDESK_MOST_EFFECTS 256          /* of one outcome */
 #define RISKDESK_MOST_VOLUME 100000        /* m3 */
 #define RISKDESK_MOST_CHANCE 1000000       /* millionths */
+#define RISKDESK_MOST_CURVE 13             /* ignition curves, numbered from 1 on */
 #define RISKDESK_LEAST_FREQUENCY 1         /* 10^-13 per year, as every frequency and sum here */
 #define RISKDESK_MOST_FREQUENCY UINT64_C(10000000000000)
 #define RISKDESK_KINDS 6                   /* kinds of outcomes */

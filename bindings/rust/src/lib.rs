@@ -115,6 +115,8 @@ impl Study {
     pub const MOST_VOLUME: u32 = 100_000;
     /// The greatest chance, in millionths.
     pub const MOST_CHANCE: u32 = 1_000_000;
+    /// The last ignition curve; the first is 1.
+    pub const MOST_CURVE: u8 = 13;
     /// The least frequency of a leak, in 10^-13 per year.
     pub const LEAST_FREQUENCY: u64 = 1;
     /// The greatest frequency of a leak, in 10^-13 per year.

@@ -38,6 +38,10 @@ pub mod record {
     pub const CLOSING: u8 = 7;
     /// An effect with a last byte, a number of [`unit`](super::unit).
     pub const TIMED_EFFECT: u8 = 8;
+    /// A branching that names an ignition curve, 1 to
+    /// [`MOST_CURVE`](crate::Study::MOST_CURVE), and a release rate in tenths of a
+    /// gram per second.
+    pub const CURVE_BRANCHING: u8 = 10;
 }
 
 /// The units of a duration: the last byte of a timed effect. Effects of kind 6

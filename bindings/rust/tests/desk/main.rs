@@ -3,4 +3,5 @@
 mod calls;
 mod common;
 mod layout;
+mod names;
 mod vectors;
