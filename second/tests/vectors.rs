@@ -6,8 +6,8 @@ use common::vectors;
 use second_desk::{report_text, report_text_of_pieces};
 
 #[test]
-fn there_are_57() {
-    assert!(vectors().len() >= 57);
+fn there_are_64() {
+    assert!(vectors().len() >= 64);
 }
 
 #[test]

@@ -64,7 +64,7 @@ fn vectors_have_the_answer_expected() {
             }
         }
     }
-    assert_eq!(refused, 29);
+    assert_eq!(refused, 34);
 }
 
 /// The specimen with its effects as kind 8.

@@ -42,7 +42,7 @@ pub fn vectors() -> Vec<Vector> {
             });
         }
     }
-    assert!(vectors.len() >= 57, "vectors are missing");
+    assert!(vectors.len() >= 64, "vectors are missing");
     vectors.sort_by(|a, b| a.name.cmp(&b.name));
     vectors
 }

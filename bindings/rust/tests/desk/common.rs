@@ -27,7 +27,7 @@ pub fn vectors() -> Vec<Vector> {
             });
         }
     }
-    assert!(vectors.len() >= 57, "only {} vectors", vectors.len());
+    assert!(vectors.len() >= 64, "only {} vectors", vectors.len());
     vectors.sort_by(|a, b| a.name.cmp(&b.name));
     vectors
 }
