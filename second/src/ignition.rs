@@ -13,7 +13,7 @@ pub const RATES: [u32; 13] = [
 /// Curves 1 to 13: the chances at the tabulated rates, in ten-thousandths, as they
 /// are printed but for curve 8 at 500 kg/s, which P3 sets to 0.1200 (printed 0.160).
 #[rustfmt::skip]
-const CURVES: [[u16; RATES.len()]; Study::MAX_CURVE as usize] = [
+pub const CURVES: [[u16; RATES.len()]; Study::MAX_CURVE as usize] = [
     [10, 13, 19, 25, 74, 204, 339, 564, 1107, 1842, 3065, 6000, 6000],
     [10, 13, 18, 24, 42, 88, 155, 272, 570, 1000, 1000, 1000, 1000],
     [10, 13, 18, 24, 42, 88, 130, 130, 130, 130, 130, 130, 130],
@@ -48,11 +48,26 @@ pub fn chance(curve: u8, rate: u32) -> Option<u32> {
 /// for the last, are below it.
 #[inline]
 pub fn column(rate: u32) -> usize {
-    let [below_last @ .., _] = &RATES;
-    below_last
-        .iter()
-        .filter(|&&tabulated| tabulated < rate)
-        .count()
+    let least = usize::from(BELOW[rate.leading_zeros() as usize]);
+    (least + usize::from(RATES[least] < rate)).min(RATES.len() - 1)
+}
+
+/// How many of the tabulated rates, but for the last, are below every rate with
+/// so many leading zeros. Each tabulated rate is at least twice the one before:
+/// among the rates with as many zeros there is at most one of them.
+static BELOW: [u8; 33] = below();
+
+const fn below() -> [u8; 33] {
+    let mut below = [0; 33];
+    let mut zeros = 0;
+    while zeros < 32 {
+        let least = 1 << (31 - zeros);
+        while below[zeros] < RATES.len() as u8 - 1 && RATES[below[zeros] as usize] < least {
+            below[zeros] += 1;
+        }
+        zeros += 1;
+    }
+    below
 }
 
 #[cfg(test)]
@@ -120,6 +135,17 @@ mod tests {
     }
 
     #[test]
+    fn columns_at_and_around_rates_and_powers_of_two() {
+        let powers = (1..32).map(|power| 1 << power);
+        for rate in RATES.into_iter().chain(powers).chain([u32::MAX - 1]) {
+            for rate in [rate - 1, rate, rate + 1] {
+                let below = RATES[..12].iter().filter(|&&tabulated| tabulated < rate);
+                assert_eq!(column(rate), below.count(), "at {rate}");
+            }
+        }
+    }
+
+    #[test]
     fn the_ends() {
         let (_, curves) = ruled();
         for (curve, chances) in (1..).zip(curves) {
@@ -141,6 +167,6 @@ mod tests {
             assert!(row.is_sorted(), "curve {curve}");
             assert!(row[12] <= 10_000, "curve {curve}");
         }
-        assert!(RATES.is_sorted_by(|a, b| a < b));
+        assert!(RATES.is_sorted_by(|a, b| 2 * a <= *b));
     }
 }
