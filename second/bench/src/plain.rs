@@ -1,8 +1,9 @@
-//! A straightforward reader of document 01's studies, with requests P1, P2 and
-//! P6 of document 02, to time the others by: the rules as they are written,
+//! A straightforward reader of document 01's studies, with requests P1, P2, P3
+//! and P6 of document 02, to time the others by: the rules as they are written,
 //! nothing prepared for speed.
 
 use second_desk::chance::{class, setting};
+use second_desk::ignition;
 use second_desk::logarithm::THRESHOLDS;
 use second_desk::record::{self, number, outcome};
 use second_desk::volume::LEAST;
@@ -66,6 +67,12 @@ static PROBITS: [i64; 108] = [
     628, 634, 641, 648, 655, 664, 675, 688, 705, 733,
     737, 741, 746, 751, 758, 765, 775, 788, 809,
 ];
+
+/// The tabulated release rates, in tenths of a gram per second.
+static RATES: [u32; 13] = ignition::RATES;
+
+/// The ignition curves: their chances at these rates, in ten-thousandths.
+static CURVES: [[u16; 13]; 13] = ignition::CURVES;
 
 /// What may come next.
 #[derive(Clone, Copy, PartialEq, Eq)]
@@ -223,7 +230,8 @@ impl Reader {
             record::OPENING => self.opening(body),
             record::TARGET => self.target_record(body)?,
             record::LEAK => self.leak(body)?,
-            record::BRANCHING => self.branching(body)?,
+            record::BRANCHING => self.branching(chance_of_branch(body))?,
+            record::CURVE_BRANCHING => self.branching(chance_of_ignition(body))?,
             record::OUTCOME => self.outcome(body)?,
             record::EFFECT | record::TIMED_EFFECT => self.effect(body)?,
             _ => self.closing(body)?,
@@ -240,7 +248,10 @@ impl Reader {
                 matches!(kind, record::TARGET | record::LEAK | record::CLOSING)
             }
             Expected::Scenario => matches!(kind, record::LEAK | record::CLOSING),
-            Expected::Tree => matches!(kind, record::BRANCHING | record::OUTCOME),
+            Expected::Tree => matches!(
+                kind,
+                record::BRANCHING | record::CURVE_BRANCHING | record::OUTCOME
+            ),
             Expected::Effect => matches!(kind, record::EFFECT | record::TIMED_EFFECT),
             Expected::Nothing => false,
         }
@@ -303,16 +314,14 @@ impl Reader {
         Ok(())
     }
 
-    fn branching(&mut self, body: &[u8]) -> Result<(), u8> {
-        let chance = u32::from_be_bytes(field(body, 0));
+    /// A branching with this chance of its first branch; none where a field is
+    /// outside its bounds.
+    fn branching(&mut self, chance: Option<u32>) -> Result<(), u8> {
         let Tree { frequency, above } = self.trees.pop().ok_or(number::ORDER)?;
         if above > MAX_ABOVE {
             return Err(number::TOO_MANY);
         }
-        if chance > CERTAIN {
-            return Err(number::FIELD);
-        }
-        let first = share(frequency, chance);
+        let first = share(frequency, chance.ok_or(number::FIELD)?);
         for frequency in [frequency - first, first] {
             self.trees.push(Tree {
                 frequency,
@@ -463,6 +472,7 @@ fn record_length(kind: u8) -> Result<usize, u8> {
         record::OPENING | record::BRANCHING => Ok(5),
         record::TARGET | record::EFFECT => Ok(9),
         record::TIMED_EFFECT => Ok(10),
+        record::CURVE_BRANCHING => Ok(6),
         record::LEAK | record::CLOSING => Ok(13),
         record::OUTCOME => Ok(4),
         _ => Err(number::UNKNOWN_KIND),
@@ -481,6 +491,26 @@ fn clock(effect: &[u8]) -> Result<&'static Clock, u8> {
         Some(1) => Ok(&TENTHS),
         Some(_) => Err(number::FIELD),
     }
+}
+
+/// The chance of a branching of kind 4.
+fn chance_of_branch(branching: &[u8]) -> Option<u32> {
+    let chance = u32::from_be_bytes(field(branching, 0));
+    Some(chance).filter(|&chance| chance <= CERTAIN)
+}
+
+/// The chance of a branching of kind 10: that of its curve at the least tabulated
+/// rate not below its own, or at the last.
+fn chance_of_ignition(branching: &[u8]) -> Option<u32> {
+    let [curve] = field(branching, 0);
+    let rate = u32::from_be_bytes(field(branching, 1));
+    let row = CURVES.get(usize::from(curve).checked_sub(1)?)?;
+    if rate == 0 {
+        return None;
+    }
+    let column = RATES.partition_point(|&tabulated| tabulated < rate);
+    let chance = row.get(column).or(row.last())?;
+    Some(u32::from(*chance) * 100)
 }
 
 /// Frequency × chance, rounded down.
@@ -651,6 +681,23 @@ mod tests {
         bytes
     }
 
+    /// A study with its branchings by curves.
+    fn on_curves(study: &[u8]) -> Vec<u8> {
+        let mut bytes = Vec::new();
+        let mut rest = study;
+        while let Some(&kind) = rest.first() {
+            let (record, after) = rest.split_at(record_length(kind).unwrap());
+            match kind {
+                record::BRANCHING => {
+                    bytes.extend([record::CURVE_BRANCHING, 8, 0, 0x4c, 0x4b, 0x40])
+                }
+                _ => bytes.extend(record),
+            }
+            rest = after;
+        }
+        bytes
+    }
+
     #[test]
     fn examples_whole_cut_short_and_damaged() {
         let mut seen = [0; 8];
@@ -660,7 +707,8 @@ mod tests {
             }
         };
         let examples = ["specimen.study", "resin-works.study"].map(example);
-        for bytes in examples.iter().cloned().chain([timed(&examples[0])]) {
+        let others = [timed(&examples[0]), on_curves(&examples[0])];
+        for bytes in examples.into_iter().chain(others) {
             assert!(Reader::new().piece(&bytes).number == number::TAKEN);
             for end in 0..=bytes.len() {
                 compare(&bytes[..end]);
@@ -736,10 +784,33 @@ mod tests {
         for (branchings, number) in [(8, number::TAKEN), (9, number::TOO_MANY)] {
             let mut bytes = fires(1, 0);
             bytes.extend([record::LEAK, 0, 0, 0, 9, 0, 0, 0, 0, 0, 1, 0, 0]);
+            let curves = on_curves(&[record::BRANCHING, 0, 7, 0, 0].repeat(branchings));
+            assert_eq!(same(&[&bytes[..], &curves].concat(), 3), number);
             for _ in 0..branchings {
                 bytes.extend([record::BRANCHING, 0, 7, 0, 0]);
             }
             assert_eq!(same(&bytes, 3), number);
+        }
+    }
+
+    #[test]
+    fn branchings_by_every_curve_at_and_around_every_rate() {
+        let front = [
+            &fires(0, 0)[..],
+            &[record::LEAK, 0, 0, 0, 9, 0, 0, 9, 0, 0, 0, 0, 1],
+        ];
+        let outcomes = [outcome::POOL_FIRE, outcome::JET_FIRE];
+        let back = outcomes.map(|kind| [record::OUTCOME, kind, 0, 0]).concat();
+        let closing = [record::CLOSING, 0, 0, 0, 6, 0, 0, 9, 0, 0, 0, 0, 1];
+        let around = RATES.iter().flat_map(|rate| [rate - 1, *rate, rate + 1]);
+        for rate in around.chain([0, 1, 20_000_000, u32::MAX]) {
+            for curve in 0..=255 {
+                let branching = [&[record::CURVE_BRANCHING, curve][..], &rate.to_be_bytes()];
+                let bytes = [&front.concat()[..], &branching.concat(), &back, &closing].concat();
+                let good = (1..=13).contains(&curve) && rate > 0;
+                let number = if good { number::TAKEN } else { number::FIELD };
+                assert_eq!(same(&bytes, 65_536), number, "curve {curve} at {rate}");
+            }
         }
     }
 

@@ -1,6 +1,7 @@
 //! The studies that are timed, made from a seed.
 
-use second_desk::record;
+use second_desk::ignition::RATES;
+use second_desk::{Study, record};
 
 /// A closed study.
 pub struct Input {
@@ -10,12 +11,13 @@ pub struct Input {
     pub targets: u16,
 }
 
-pub fn inputs(seed: u64) -> [Input; 5] {
+pub fn inputs(seed: u64) -> [Input; 6] {
     [
         effects(seed),
         timed_effects(seed),
         mixed_timings(seed),
         deep_trees(seed),
+        ignition_curves(seed),
         small_scenarios(seed),
     ]
 }
@@ -44,9 +46,19 @@ enum Timing {
     ByEffect,
 }
 
+/// How the branchings of a study give their chances.
+#[derive(Clone, Copy)]
+enum Branchings {
+    /// By kind 4.
+    Chances,
+    /// By kind 10.
+    Curves,
+}
+
 struct Maker {
     random: Random,
     timing: Timing,
+    branchings: Branchings,
     bytes: Vec<u8>,
     records: u32,
     scenarios: u32,
@@ -59,6 +71,7 @@ impl Maker {
         let mut maker = Maker {
             random: Random(seed),
             timing: Timing::Plain,
+            branchings: Branchings::Chances,
             bytes: Vec::new(),
             records: 0,
             scenarios: 0,
@@ -104,8 +117,23 @@ impl Maker {
     }
 
     fn branching(&mut self) {
-        let chance = self.random.below(1_000_001) as u32;
-        self.record(record::BRANCHING, &[&chance.to_be_bytes()]);
+        match self.branchings {
+            Branchings::Chances => {
+                let chance = self.random.below(1_000_001) as u32;
+                self.record(record::BRANCHING, &[&chance.to_be_bytes()]);
+            }
+            Branchings::Curves => {
+                let curve = self.random.below(Study::MAX_CURVE.into()) as u8 + 1;
+                let rate = self.release_rate().to_be_bytes();
+                self.record(record::CURVE_BRANCHING, &[&[curve], &rate]);
+            }
+        }
+    }
+
+    /// A release rate that takes the chance at each tabulated one as often.
+    fn release_rate(&mut self) -> u32 {
+        let tabulated = RATES[self.random.below(RATES.len() as u64) as usize];
+        tabulated - self.random.below(u64::from(tabulated / 2)) as u32
     }
 
     /// An outcome with effects on so many targets from the first on.
@@ -163,6 +191,27 @@ impl Maker {
         }
     }
 
+    /// Scenarios with a branching at every place down to the last level, up to
+    /// about a million records.
+    fn deep_trees(&mut self) {
+        while self.records < 999_000 {
+            self.leak();
+            self.deep_tree(0);
+        }
+    }
+
+    fn deep_tree(&mut self, above: u32) {
+        if above < 8 {
+            self.branching();
+            self.deep_tree(above + 1);
+            self.deep_tree(above + 1);
+        } else {
+            let kind = self.random.below(6) as u8;
+            let effects = u16::from(kind > 0 && self.random.below(16) == 0);
+            self.outcome(kind, effects);
+        }
+    }
+
     fn any_kind(&mut self) -> u8 {
         self.random.below(5) as u8 + 1
     }
@@ -205,23 +254,17 @@ fn mixed_timings(seed: u64) -> Input {
 /// About a million records of trees in which every branching has two branches
 /// down to the last level, and few effects.
 fn deep_trees(seed: u64) -> Input {
-    fn tree(maker: &mut Maker, above: u32) {
-        if above < 8 {
-            maker.branching();
-            tree(maker, above + 1);
-            tree(maker, above + 1);
-        } else {
-            let kind = maker.random.below(6) as u8;
-            let effects = u16::from(kind > 0 && maker.random.below(16) == 0);
-            maker.outcome(kind, effects);
-        }
-    }
     let mut maker = Maker::new(seed, 32);
-    while maker.records < 999_000 {
-        maker.leak();
-        tree(&mut maker, 0);
-    }
+    maker.deep_trees();
     maker.closed("deep trees")
+}
+
+/// The same with branchings by ignition curves.
+fn ignition_curves(seed: u64) -> Input {
+    let mut maker = Maker::new(seed, 32);
+    maker.branchings = Branchings::Curves;
+    maker.deep_trees();
+    maker.closed("ignition curves")
 }
 
 /// 65,536 scenarios of one or two outcomes with one or two effects each.
