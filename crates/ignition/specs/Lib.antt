@@ -1,0 +1,2 @@
+pub mod Ignition
+pub mod Tables
