@@ -8,7 +8,7 @@ use native.Mathlib.Omega.{arith}
 use Rattle.numeric.specs.Choice.{ifEq, ifLt}
 use Rattle.numeric.proofs.ChoiceLaws.{eq-case, ne-case, eq-both}
 use Rattle.terms.specs.Terms.{tenthsUnit, clockOf}
-use Rattle.model.specs.Content.{given, described, Effect, targetOf, intensity, duration, clock}
+use Rattle.model.specs.Content.{given, onCurve, described, Effect, targetOf, intensity, duration, clock}
 use Rattle.model.specs.Format.{Record, openingRec, targetRec, leakRec, branchingRec, outcomeRec, effectRec, closingRec}
 use Rattle.model.specs.Faults.{unitFault}
 use Rattle.model.specs.Verdict.{decode, field, factsAt}
@@ -41,12 +41,16 @@ module _ (l : List ℕ) where
   decode-effect (inl h) = rw h refl
   decode-effect (inr h) = rw h refl
 
+  pub decode-curve : getD l 0 0 ≡ 10 → decode l ≡ branchingRec (onCurve (field l 1 1) (field l 2 4))
+  unfolding decode ifEq
+  decode-curve h = rw h refl
+
   -- every other kind
-  pub decode-closing : (getD l 0 0 ≡ 8 → ⊥) → (getD l 0 0 ≡ 6 → ⊥) → (getD l 0 0 ≡ 5 → ⊥) → (getD l 0 0 ≡ 4 → ⊥) → (getD l 0 0 ≡ 3 → ⊥) → (getD l 0 0 ≡ 2 → ⊥) → (getD l 0 0 ≡ 1 → ⊥)
+  pub decode-closing : (getD l 0 0 ≡ 10 → ⊥) → (getD l 0 0 ≡ 8 → ⊥) → (getD l 0 0 ≡ 6 → ⊥) → (getD l 0 0 ≡ 5 → ⊥) → (getD l 0 0 ≡ 4 → ⊥) → (getD l 0 0 ≡ 3 → ⊥) → (getD l 0 0 ≡ 2 → ⊥) → (getD l 0 0 ≡ 1 → ⊥)
       → decode l ≡ closingRec (field l 1 4) (field l 5 8)
   unfolding decode
-  decode-closing n8 n6 n5 n4 n3 n2 n1 =
-      sym (ne-case _ _ _ _ n1 (ne-case _ _ _ _ n2 (ne-case _ _ _ _ n3 (ne-case _ _ _ _ n4 (ne-case _ _ _ _ n5 (ne-case _ _ _ _ n6 (ne-case _ _ _ _ n8 refl)))))))
+  decode-closing n10 n8 n6 n5 n4 n3 n2 n1 =
+      sym (ne-case _ _ _ _ n1 (ne-case _ _ _ _ n2 (ne-case _ _ _ _ n3 (ne-case _ _ _ _ n4 (ne-case _ _ _ _ n5 (ne-case _ _ _ _ n6 (ne-case _ _ _ _ n8 (ne-case _ _ _ _ n10 refl))))))))
 
   -- what an effect says, of either kind
   pub effect-target : targetOf (effectOf l) ≡ field l 1 2

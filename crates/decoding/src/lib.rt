@@ -8,10 +8,16 @@ use state::record;
 use terms::Target;
 use terms::unit;
 
-// The length of a kind's body; 0 for an unknown kind.
+// The length of a kind's body; 0 for an unknown kind. The kinds to 8 are told apart alone: their lengths then fit in one word.
 pub fn body_length(kind: u8) -> u8
     ensures { λ r. ⌜ r ≡ bodyLength kind ⌝ }
 {
+    if record::TIMED_EFFECT < kind {
+        if kind == record::CURVE_BRANCHING {
+            return 5;
+        }
+        return 0;
+    }
     if kind == record::OPENING {
         return 4;
     }
@@ -124,6 +130,12 @@ pub fn word_at_1(p: &[u8]) -> u32
     ensures { λ r. ⌜ r ≡ field (now (p .entry)) 1 4 ⌝ }
 {
     word(p, 1)
+}
+
+pub fn word_at_2(p: &[u8]) -> u32
+    ensures { λ r. ⌜ r ≡ field (now (p .entry)) 2 4 ⌝ }
+{
+    word(p, 2)
 }
 
 pub fn word_at_3(p: &[u8]) -> u32

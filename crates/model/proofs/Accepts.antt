@@ -3,7 +3,7 @@ use mathlib.Core.Path.{_≡_}
 use mathlib.Core.List.{List, [], _∷_}
 use Prim.Native.Nat.{ℕ, _^_, _<_}
 use lib.ListN.{length}
-use Rattle.model.specs.Content.{given, described, inSeconds, timed}
+use Rattle.model.specs.Content.{given, onCurve, described, inSeconds, timed}
 use Rattle.model.specs.Format.{Record, openingRec, targetRec, leakRec, branchingRec, outcomeRec, effectRec, closingRec}
 use Rattle.model.specs.Faults.{Context, role, fault, contextAfter}
 use Rattle.model.specs.Verdict.{bodyLength}
@@ -19,6 +19,7 @@ Fits (openingRec n) = n < 2 ^ 32
 Fits (targetRec n (described f)) = (n < 2 ^ 16) × (f .class < 2 ^ 8) × (f .setting < 2 ^ 8) × (f .volume < 2 ^ 32)
 Fits (leakRec n f) = (n < 2 ^ 32) × (f < 2 ^ 64)
 Fits (branchingRec (given p)) = p < 2 ^ 32
+Fits (branchingRec (onCurve c r)) = (c < 2 ^ 8) × (r < 2 ^ 32)
 Fits (outcomeRec k n) = (k < 2 ^ 8) × (n < 2 ^ 16)
 Fits (effectRec (inSeconds t i d)) = (t < 2 ^ 16) × (i < 2 ^ 32) × (d < 2 ^ 16)
 Fits (effectRec (timed t i d u)) = (t < 2 ^ 16) × (i < 2 ^ 32) × (d < 2 ^ 16) × (u < 2 ^ 8)

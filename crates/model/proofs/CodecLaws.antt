@@ -3,13 +3,14 @@ use mathlib.Core.Path.{_≡_, refl, sym, _∙_, ap, ap₂, subst}
 use mathlib.Core.List.{List, [], _∷_, _++_}
 use Prim.Native.Nat.{ℕ, zero, suc, _+_, _*_, _/_, _%_, _^_, _<_, _≤_}
 use native.Mathlib.Nat.{le-of-eq, zero-lt-suc, one-le-pow, mod-lt, mod-eq-of-lt, pow-suc, pow-succ', div-one, mod-one, div-div-eq-div-mul, add-suc, suc-add, add-zero, zero-add}
+use native.Mathlib.Decide.{ℕ-discrete}
 use native.Mathlib.Omega.{arith}
 use lib.ListN.{length, getD, take, drop, List·getD-append}
 use lib.Seq.{drop-cons, take-add, take-all, getD-append-add}
 use lib.Arith.{digits-lt, digits-div, digits-mod, mod-mul}
 use Rattle.numeric.specs.Choice.{ifEq}
 use Rattle.numeric.proofs.ChoiceLaws.{ne-case, eq-both}
-use Rattle.model.specs.Content.{given, described, inSeconds, timed}
+use Rattle.model.specs.Content.{given, onCurve, described, inSeconds, timed}
 use Rattle.model.specs.Format.{Record, openingRec, targetRec, leakRec, branchingRec, outcomeRec, effectRec, closingRec, bytes, encode}
 use Rattle.model.specs.Calls.{Bytes}
 use Rattle.model.specs.Verdict.{bodyLength, field, decode}
@@ -82,6 +83,8 @@ decode-encode (targetRec n (described f)) h =
 decode-encode (leakRec n f) h =
     ap₂ leakRec (field-bytes (3 ∷ []) (bytes 8 f) 4 n (h .0)) (field-bytes (3 ∷ bytes 4 n) [] 8 f (h .1))
 decode-encode (branchingRec (given p)) h = ap (λ (x : ℕ). branchingRec (given x)) (field-bytes (4 ∷ []) [] 4 p h)
+decode-encode (branchingRec (onCurve c r)) h =
+    ap₂ (λ (x y : ℕ). branchingRec (onCurve x y)) (field-bytes (10 ∷ []) (bytes 4 r) 1 c (h .0)) (field-bytes (10 ∷ bytes 1 c) [] 4 r (h .1))
 decode-encode (outcomeRec k n) h =
     ap₂ outcomeRec (field-bytes (5 ∷ []) (bytes 2 n) 1 k (h .0)) (field-bytes (5 ∷ bytes 1 k) [] 2 n (h .1))
 decode-encode (effectRec (inSeconds t i d)) h =
@@ -98,26 +101,21 @@ decode-encode (effectRec (timed t i d u)) h =
 decode-encode (closingRec n s) h =
     ap₂ closingRec (field-bytes (7 ∷ []) (bytes 8 s) 4 n (h .0)) (field-bytes (7 ∷ bytes 4 n) [] 8 s (h .1))
 
--- a kind above 8 is unknown
-body-unknown : (k : ℕ) → 9 ≤ k → bodyLength k ≡ 0
+-- the known kinds
+kind-cases : (P : ℕ → Type 0) → P 1 → P 2 → P 3 → P 4 → P 5 → P 6 → P 7 → P 8 → P 10 → (k : ℕ) → (bodyLength k ≡ 0 → ⊥) → P k
 unfolding bodyLength
-body-unknown k h =
-    sym (ne-case k 1 _ _ (omega arith) (ne-case k 2 _ _ (omega arith) (ne-case k 3 _ _ (omega arith) (ne-case k 4 _ _ (omega arith)
-    (ne-case k 5 _ _ (omega arith) (ne-case k 6 _ _ (omega arith) (ne-case k 7 _ _ (omega arith) (ne-case k 8 _ _ (omega arith) refl))))))))
-
--- the known kinds are 1 to 8
-kind-cases : (P : ℕ → Type 0) → P 1 → P 2 → P 3 → P 4 → P 5 → P 6 → P 7 → P 8 → (k : ℕ) → (bodyLength k ≡ 0 → ⊥) → P k
-unfolding bodyLength ifEq
-kind-cases P p1 p2 p3 p4 p5 p6 p7 p8 zero h = absurd (h refl)
-kind-cases P p1 p2 p3 p4 p5 p6 p7 p8 (suc zero) h = p1
-kind-cases P p1 p2 p3 p4 p5 p6 p7 p8 (suc (suc zero)) h = p2
-kind-cases P p1 p2 p3 p4 p5 p6 p7 p8 (suc (suc (suc zero))) h = p3
-kind-cases P p1 p2 p3 p4 p5 p6 p7 p8 (suc (suc (suc (suc zero)))) h = p4
-kind-cases P p1 p2 p3 p4 p5 p6 p7 p8 (suc (suc (suc (suc (suc zero))))) h = p5
-kind-cases P p1 p2 p3 p4 p5 p6 p7 p8 (suc (suc (suc (suc (suc (suc zero)))))) h = p6
-kind-cases P p1 p2 p3 p4 p5 p6 p7 p8 (suc (suc (suc (suc (suc (suc (suc zero))))))) h = p7
-kind-cases P p1 p2 p3 p4 p5 p6 p7 p8 (suc (suc (suc (suc (suc (suc (suc (suc zero)))))))) h = p8
-kind-cases P p1 p2 p3 p4 p5 p6 p7 p8 (suc (suc (suc (suc (suc (suc (suc (suc (suc k))))))))) h = absurd (h (body-unknown (suc (suc (suc (suc (suc (suc (suc (suc (suc k))))))))) (omega arith)))
+kind-cases P p1 p2 p3 p4 p5 p6 p7 p8 p10 k h =
+    is 1 p1 (λ n1. is 2 p2 (λ n2. is 3 p3 (λ n3. is 4 p4 (λ n4. is 5 p5 (λ n5.
+    is 6 p6 (λ n6. is 7 p7 (λ n7. is 8 p8 (λ n8. is 10 p10 (λ n10.
+    absurd (h (sym
+    (ne-case k 1 _ _ n1 (ne-case k 2 _ _ n2 (ne-case k 3 _ _ n3 (ne-case k 4 _ _ n4 (ne-case k 5 _ _ n5 (ne-case k 6 _ _ n6 (ne-case k 7 _ _ n7 (ne-case k 8 _ _ n8 (ne-case k 10 _ _ n10 refl))))))))))))))))))))
+  where
+    is : (n : ℕ) → P n → ((k ≡ n → ⊥) → P k) → P k
+    is n p f = go (ℕ-discrete k n)
+      where
+        go : Dec (k ≡ n) → P k
+        go (yes e) = subst P (sym e) p
+        go (no e) = f e
 
 -- what holds of the whole records of each kind holds of every whole record
 whole-cases : (P : List ℕ → Type 0)
@@ -129,11 +127,12 @@ whole-cases : (P : List ℕ → Type 0)
     → ((b : List ℕ) → length b ≡ 8 → P (6 ∷ b))
     → ((b : List ℕ) → length b ≡ 12 → P (7 ∷ b))
     → ((b : List ℕ) → length b ≡ 9 → P (8 ∷ b))
+    → ((b : List ℕ) → length b ≡ 5 → P (10 ∷ b))
     → (l : List ℕ) → WholeBytes l → P l
 unfolding bodyLength ifEq
-whole-cases P p1 p2 p3 p4 p5 p6 p7 p8 l w =
+whole-cases P p1 p2 p3 p4 p5 p6 p7 p8 p10 l w =
     subst P (sym (w .same))
-    (kind-cases (λ k. (b : List ℕ) → length b ≡ bodyLength k → P (k ∷ b)) p1 p2 p3 p4 p5 p6 p7 p8 (w .kind) (w .whole .known) (w .body) (w .whole .full))
+    (kind-cases (λ k. (b : List ℕ) → length b ≡ bodyLength k → P (k ∷ b)) p1 p2 p3 p4 p5 p6 p7 p8 p10 (w .kind) (w .whole .known) (w .body) (w .whole .full))
 
 -- numbers read from bytes
 
@@ -198,6 +197,7 @@ encode-decode l h w =
     (λ b e h. let f = next 6 b 8 e h in all 6 b 8 e h (f 6 2 _ (omega arith) (f 2 4 _ (omega arith) (f 0 2 _ (omega arith) refl))))
     (λ b e h. let f = next 7 b 12 e h in all 7 b 12 e h (f 4 8 _ (omega arith) (f 0 4 _ (omega arith) refl)))
     (λ b e h. let f = next 8 b 9 e h in all 8 b 9 e h (f 8 1 _ (omega arith) (f 6 2 _ (omega arith) (f 2 4 _ (omega arith) (f 0 2 _ (omega arith) refl)))))
+    (λ b e h. let f = next 10 b 5 e h in all 10 b 5 e h (f 1 4 _ (omega arith) (f 0 1 _ (omega arith) refl)))
     l w h
 
 pub decode-fits : (l : List ℕ) → Bytes l → WholeBytes l → Fits (decode l)
@@ -212,6 +212,7 @@ decode-fits l h w =
     (λ b e h. (field-below (6 ∷ b) h 1 2, field-below (6 ∷ b) h 3 4, field-below (6 ∷ b) h 7 2))
     (λ b e h. (field-below (7 ∷ b) h 1 4, field-below (7 ∷ b) h 5 8))
     (λ b e h. (field-below (8 ∷ b) h 1 2, field-below (8 ∷ b) h 3 4, field-below (8 ∷ b) h 7 2, field-below (8 ∷ b) h 9 1))
+    (λ b e h. (field-below (10 ∷ b) h 1 1, field-below (10 ∷ b) h 2 4))
     l w h
 
 pub encode-bytes : (r : Record) → Bytes (encode r)
@@ -224,6 +225,7 @@ encode-bytes (targetRec n (described f)) = (
 )
 encode-bytes (leakRec n f) = (omega arith, one-more (bytes 4 n) 8 f (bytes-below 4 n))
 encode-bytes (branchingRec (given p)) = (omega arith, bytes-below 4 p)
+encode-bytes (branchingRec (onCurve c r)) = (omega arith, one-more (bytes 1 c) 4 r (bytes-below 1 c))
 encode-bytes (outcomeRec k n) = (omega arith, one-more (bytes 1 k) 2 n (bytes-below 1 k))
 encode-bytes (effectRec (inSeconds t i d)) = (omega arith, one-more (bytes 2 t ++ bytes 4 i) 2 d (one-more (bytes 2 t) 4 i (bytes-below 2 t)))
 encode-bytes (effectRec (timed t i d u)) = (omega arith, one-more (bytes 2 t ++ bytes 4 i ++ bytes 2 d) 1 u (one-more (bytes 2 t ++ bytes 4 i) 2 d (one-more (bytes 2 t) 4 i (bytes-below 2 t))))
@@ -238,6 +240,7 @@ encode-whole (openingRec n) = whole-bytes 1 _ (omega arith) refl
 encode-whole (targetRec n (described f)) = whole-bytes 2 _ (omega arith) refl
 encode-whole (leakRec n f) = whole-bytes 3 _ (omega arith) refl
 encode-whole (branchingRec (given p)) = whole-bytes 4 _ (omega arith) refl
+encode-whole (branchingRec (onCurve c r)) = whole-bytes 10 _ (omega arith) refl
 encode-whole (outcomeRec k n) = whole-bytes 5 _ (omega arith) refl
 encode-whole (effectRec (inSeconds t i d)) = whole-bytes 6 _ (omega arith) refl
 encode-whole (effectRec (timed t i d u)) = whole-bytes 8 _ (omega arith) refl
@@ -279,6 +282,7 @@ decode-prefix l q w =
     let d = at 8 b 7 2 (omega arith) in
     let w = at 8 b 9 1 (omega arith) in
     λ j. effectRec (timed (t j) (u j) (d j) (w j)))
+    (λ b e. ap₂ (λ (x y : ℕ). branchingRec (onCurve x y)) (at 10 b 1 1 (omega arith)) (at 10 b 2 4 (omega arith)))
     l w
   where
     at : (k : ℕ) (b : List ℕ) (i n : ℕ) → i + n ≤ length (k ∷ b) → field (k ∷ (b ++ q)) i n ≡ field (k ∷ b) i n
@@ -294,7 +298,7 @@ body-most k =
     (eq-both Few k 2 8 _ (omega arith)
     (eq-both Few k 3 12 _ (omega arith)
     (eq-both Few k 4 4 _ (omega arith)
-    (eq-both Few k 5 3 _ (omega arith) (eq-both Few k 6 8 _ (omega arith) (eq-both Few k 7 12 _ (omega arith) (eq-both Few k 8 9 0 (omega arith) (omega arith))))))))
+    (eq-both Few k 5 3 _ (omega arith) (eq-both Few k 6 8 _ (omega arith) (eq-both Few k 7 12 _ (omega arith) (eq-both Few k 8 9 _ (omega arith) (eq-both Few k 10 5 0 (omega arith) (omega arith)))))))))
   where
     Few : ℕ → Type 0
     Few n = n ≤ 12

@@ -12,6 +12,7 @@ use Rattle.log2.specs.Logarithm.{logarithm}
 use Rattle.probit.specs.Table.{probitTable}
 use Rattle.probit.specs.Chance.{greatestChance, chanceOf}
 use Rattle.volumes.specs.Root.{rootOf}
+use Rattle.ignition.specs.Ignition.{placeOf, column, ignition}
 use Rattle.terms.specs.Terms.{byKind, clockOf}
 use Rattle.people.specs.Death.{fireProbitBy, settingShare, fireDeathBy, flashDeath, blastDeath, deathBy}
 use Rattle.equipment.specs.Damage.{blastRowOf, blastProbitBy, blastDamageBy, heatProbitBy, heatDamageBy, sphereProbitBy, sphereDamageBy, fireChanceBy, fireJudged, fireDamageBy, damageBy}
@@ -20,13 +21,13 @@ use Rattle.vulnerability.specs.Domino.{listedBy}
 use Rattle.model.specs.Sums.{sumOver, some, joinOver, numbersBelow}
 use Rattle.model.specs.Format.{bytes, encode, treeRecords, targetRecords, effectRecords, scenarioRecords, leaksOf, openRecords, countOf}
 use Rattle.model.specs.Outcomes.{treeOutcomes, scenarioOutcomes, outcomesOf}
-use Rattle.model.specs.Faults.{orderFault, targetFault, leakFault, branchingFault, outcomeFault, namingFault, effectFault, unitFault, closingFault, ownFault, fault, contextAfter}
+use Rattle.model.specs.Faults.{orderFault, targetFault, leakFault, chanceFault, branchingFault, outcomeFault, namingFault, effectFault, unitFault, closingFault, ownFault, fault, contextAfter}
 use Rattle.model.specs.Report.{judgement, kindTotal, overEffects, unjudgedOf, sumAt, marginAt, exactAt, gradeOf, listedAt, dominoOf}
 use Rattle.model.specs.MeaningTheorems.{Near}
 use Rattle.model.specs.Verdict.{bodyLength, field, decode, cutFirst, cut, partsOf, contentOf, judgeLeft, judge, verdict}
 use Rattle.model.specs.Calls.{totalsOf, targetReportOf, front, pieceNumber, pieceAnswer, totalsAnswer, targetAnswer, dominoAnswer, answer, Callable}
 use Rattle.model.specs.Instances.{Shown, specimen, shownOf}
-use Rattle.model.specs.Edges.{stands, allStand, chances, fatalities, damages, spheres, timings, edges, calls, EdgesStand, MarginIsStrict, BytesTo255}
+use Rattle.model.specs.Edges.{stands, allStand, chances, fatalities, damages, spheres, timings, ignitions, edges, calls, EdgesStand, MarginIsStrict, BytesTo255}
 use Rattle.model.proofs.Instances.{specimen-holds}
 
 chances-stand : allStand chances ≡ true
@@ -49,16 +50,20 @@ timings-stand : allStand timings ≡ true
 unfolding ifEq ifLe ifLt greatest logarithm probitTable greatestChance chanceOf clockOf byKind fireProbitBy settingShare fireDeathBy deathBy heatProbitBy heatDamageBy sphereProbitBy sphereDamageBy fireChanceBy fireJudged fireDamageBy damageBy effectBy stands allStand timings
 timings-stand = refl
 
+ignitions-stand : allStand ignitions ≡ true
+unfolding ifLe sumOver placeOf column ignition stands allStand ignitions
+ignitions-stand = refl
+
 faults-stand : allStand edges ≡ true
-unfolding ifEq ifLe ifLt orderFault targetFault leakFault branchingFault outcomeFault namingFault effectFault unitFault closingFault ownFault fault gradeOf stands allStand edges
+unfolding ifEq ifLe ifLt orderFault targetFault leakFault chanceFault branchingFault outcomeFault namingFault effectFault unitFault closingFault ownFault fault gradeOf stands allStand edges
 faults-stand = refl
 
 calls-stand : allStand calls ≡ true
-unfolding ifEq ifLe ifLt shareOf splitOf greatest logarithm probitTable greatestChance chanceOf clockOf byKind fireProbitBy settingShare fireDeathBy flashDeath blastDeath deathBy blastRowOf blastProbitBy blastDamageBy heatProbitBy heatDamageBy sphereProbitBy sphereDamageBy fireChanceBy fireJudged fireDamageBy damageBy effectBy listedBy sumOver some joinOver numbersBelow bytes encode targetRecords effectRecords treeRecords scenarioRecords leaksOf openRecords countOf treeOutcomes scenarioOutcomes outcomesOf orderFault targetFault leakFault branchingFault outcomeFault namingFault effectFault unitFault closingFault ownFault fault contextAfter judgement kindTotal overEffects unjudgedOf sumAt marginAt gradeOf listedAt dominoOf bodyLength field decode cutFirst cut partsOf contentOf judgeLeft judge verdict totalsOf targetReportOf front pieceNumber pieceAnswer totalsAnswer targetAnswer dominoAnswer answer stands allStand calls
+unfolding ifEq ifLe ifLt shareOf splitOf greatest logarithm probitTable greatestChance chanceOf clockOf byKind fireProbitBy settingShare fireDeathBy flashDeath blastDeath deathBy blastRowOf blastProbitBy blastDamageBy heatProbitBy heatDamageBy sphereProbitBy sphereDamageBy fireChanceBy fireJudged fireDamageBy damageBy effectBy listedBy sumOver some joinOver numbersBelow bytes encode targetRecords effectRecords treeRecords scenarioRecords leaksOf openRecords countOf treeOutcomes scenarioOutcomes outcomesOf orderFault targetFault leakFault chanceFault branchingFault outcomeFault namingFault effectFault unitFault closingFault ownFault fault contextAfter judgement kindTotal overEffects unjudgedOf sumAt marginAt gradeOf listedAt dominoOf bodyLength field decode cutFirst cut partsOf contentOf judgeLeft judge verdict totalsOf targetReportOf front pieceNumber pieceAnswer totalsAnswer targetAnswer dominoAnswer answer stands allStand calls
 calls-stand = refl
 
 pub edges-stand : EdgesStand
-edges-stand = (chances-stand, fatalities-stand, damages-stand, spheres-stand, timings-stand, faults-stand, calls-stand)
+edges-stand = (chances-stand, fatalities-stand, damages-stand, spheres-stand, timings-stand, ignitions-stand, faults-stand, calls-stand)
 
 -- the specimen's exact sum at target 0
 exact : exactAt specimen 0 ≡ 600000 * 10 ^ 54

@@ -98,7 +98,7 @@ opening-kind l n =
     (eq-both Other k 3 _ _ (λ z. omega arith)
     (eq-both Other k 4 _ _ (λ z. omega arith)
     (eq-both Other k 5 _ _ (λ z. omega arith) (eq-both Other k 6 _ _ (λ z. omega arith)
-    (eq-both Other k 8 _ _ (λ z. omega arith) (λ z. omega arith)))))))
+    (eq-both Other k 8 _ _ (λ z. omega arith) (eq-both Other k 10 _ _ (λ z. omega arith) (λ z. omega arith))))))))
   where
     k : ℕ
     k = getD l 0 0

@@ -7,12 +7,13 @@ use Rattle.numeric.specs.Choice.{ifEq, ifLe, ifLt}
 use Rattle.numeric.specs.Share.{certain}
 use Rattle.numeric.proofs.ChoiceLaws.{eq-case, ne-case, le-case, gt-case, lt-case, ge-case, eq-elim, le-elim, lt-elim}
 use Rattle.terms.specs.Terms.{noEffect, fireball, flashFire, people}
-use Rattle.model.specs.Bounds.{mostTargets, mostScenarios, mostRecords, mostAbove, mostVolume, leastFrequency, mostFrequency, mostEffects, mostKind, mostClass, mostSetting}
-use Rattle.model.specs.Content.{Target, facts, Effect, inSeconds, timed}
-use Rattle.model.specs.Format.{Record}
-use Rattle.model.specs.Valid.{ValidTarget, ValidUnit}
-use Rattle.model.specs.Faults.{Context, orderFault, targetFault, leakFault, branchingFault, outcomeFault, namingFault, effectFault, unitFault, closingFault, ownFault, fault}
+use Rattle.model.specs.Bounds.{mostTargets, mostScenarios, mostRecords, mostAbove, mostVolume, leastFrequency, mostFrequency, mostEffects, mostKind, mostClass, mostSetting, mostCurve, CurvesAreAll}
+use Rattle.model.specs.Content.{Branching, given, onCurve, Target, facts, Effect, inSeconds, timed}
+use Rattle.model.specs.Format.{Record, branchingRec}
+use Rattle.model.specs.Valid.{ValidTarget, ValidBranching, ValidUnit}
+use Rattle.model.specs.Faults.{Context, orderFault, targetFault, leakFault, chanceFault, branchingFault, outcomeFault, namingFault, effectFault, unitFault, closingFault, ownFault, fault}
 use Rattle.model.specs.MachineTheorems.{Allowed}
+use Rattle.model.proofs.Accepts.{Fits}
 
 -- where the order allows a record of kind k
 pub record Order (r l t s k : ℕ) : Type 0 where
@@ -151,13 +152,29 @@ leak-free scenarios last n f t =
     go (no z) = ne-case scenarios 0 _ _ z (lt-case last n _ _ (t .rising (omega arith)) refl)
 
 -- a branching without fault
-pub branching-facts : (above p : ℕ) → branchingFault above p ≡ 0 → (above ≤ mostAbove) × (p ≤ certain)
+pub branching-facts : (above : ℕ) (b : Branching) → branchingFault above b ≡ 0 → (above ≤ mostAbove) × (chanceFault b ≡ 0)
 unfolding branchingFault
-branching-facts above p e = lt-elim e (λ h q. absurd (omega arith)) (λ h q. lt-elim q (λ i q. absurd (omega arith)) (λ i q. (h, i)))
+branching-facts above b e = lt-elim e (λ h q. absurd (omega arith)) (λ h q. (h, q))
 
-pub branching-free : (above p : ℕ) → above ≤ mostAbove → p ≤ certain → branchingFault above p ≡ 0
+pub branching-free : (above : ℕ) (b : Branching) → above ≤ mostAbove → chanceFault b ≡ 0 → branchingFault above b ≡ 0
 unfolding branchingFault
-branching-free above p h i = sym (ge-case mostAbove above _ _ h (ge-case certain p _ _ i refl))
+branching-free above b h e = sym (ge-case mostAbove above _ _ h (sym e))
+
+pub curves-are-all : CurvesAreAll
+curves-are-all = refl
+
+-- a chance without fault, in fields of the record's widths
+pub chance-facts : (b : Branching) → chanceFault b ≡ 0 → Fits (branchingRec b) → ValidBranching b
+unfolding chanceFault Fits
+chance-facts (given p) e f = lt-elim e (λ h q. absurd (omega arith)) (λ h q. h)
+chance-facts (onCurve c r) e f =
+    eq-elim e (λ h q. absurd (omega arith))
+    (λ h q. lt-elim q (λ i q. absurd (omega arith)) (λ i q. eq-elim q (λ j q. absurd (omega arith)) (λ j q. (omega arith, i, omega arith, f .1))))
+
+pub chance-free : (b : Branching) → ValidBranching b → chanceFault b ≡ 0
+unfolding chanceFault
+chance-free (given p) v = sym (ge-case certain p _ _ v refl)
+chance-free (onCurve c r) v = sym (ne-case c 0 _ _ (λ z. omega (arith, v .0)) (ge-case mostCurve c _ _ (v .1) (ne-case r 0 _ _ (λ z. omega (arith, v .2)) refl)))
 
 -- an outcome without fault
 pub record OutcomeTaken (k n : ℕ) : Type 0 where

@@ -11,18 +11,19 @@ use Rattle.log2.specs.Logarithm.{logarithm}
 use Rattle.probit.specs.Table.{probitTable}
 use Rattle.probit.specs.Chance.{greatestChance, chanceOf}
 use Rattle.volumes.specs.Root.{rootOf}
+use Rattle.ignition.specs.Ignition.{placeOf, column, ignition}
 use Rattle.terms.specs.Terms.{byKind, clockOf}
 use Rattle.people.specs.Death.{fireProbitBy, settingShare, fireDeathBy, flashDeath, blastDeath, deathBy}
 use Rattle.equipment.specs.Damage.{blastRowOf, blastProbitBy, blastDamageBy, heatProbitBy, heatDamageBy, sphereProbitBy, sphereDamageBy, fireChanceBy, fireJudged, fireDamageBy, damageBy}
 use Rattle.vulnerability.specs.Effect.{effectBy}
 use Rattle.vulnerability.specs.Domino.{listedBy}
 use Rattle.model.specs.Sums.{sumOver, some, joinOver, numbersBelow}
-use Rattle.model.specs.Content.{Effect, inSeconds, timed, Tree, outcome}
+use Rattle.model.specs.Content.{given, onCurve, Effect, inSeconds, timed, Tree, outcome, branching}
 use Rattle.model.specs.Format.{bytes, encode, targetRecords, effectRecords, treeRecords, scenarioRecords, leaksOf, openRecords, countOf, recordsOf, bytesOf}
 use Rattle.model.specs.Valid.{ValidEffect, ValidTree, Valid}
 use Rattle.model.specs.Outcomes.{treeOutcomes, scenarioOutcomes, outcomesOf}
 use Rattle.model.specs.Report.{judgement, kindTotal, overEffects, unjudgedOf, sumAt, marginAt, exactAt, gradeOf, listedAt, dominoOf}
-use Rattle.model.specs.Instances.{shownOf, specimen, SpecimenHolds, stem, deep, DeepHolds, tankFarm, TankFarmHolds, fireballs, FireballsHold}
+use Rattle.model.specs.Instances.{shownOf, specimen, SpecimenHolds, stem, deep, DeepHolds, tankFarm, TankFarmHolds, fireballs, FireballsHold, ignited, IgnitedHolds}
 
 -- an outcome without effects is valid anywhere
 nothing-valid : (targets above : ℕ) → ValidTree targets above (outcome 0 [])
@@ -153,6 +154,27 @@ fireballs-valid =
       fewRecords = omega arith;
     }
 
+ignited-tree-valid :
+    ValidTree 2 0
+    (branching (onCurve 8 5000000) (outcome 1 (inSeconds 0 12500 20 ∷ []))
+    (branching (given 250000) (outcome 5 (inSeconds 0 20000 0 ∷ inSeconds 1 70000 0 ∷ []))
+    (branching (onCurve 12 2001) (outcome 4 (inSeconds 0 1 0 ∷ [])) (outcome 0 []))))
+unfolding ValidTree
+ignited-tree-valid = (omega arith, omega arith, omega arith, (omega arith, omega arith, omega arith, (omega arith, omega arith, omega arith, omega arith)))
+
+ignited-valid : Valid ignited
+unfolding ignited countOf openRecords targetRecords joinOver scenarioRecords treeRecords effectRecords
+ignited-valid =
+    record {
+      number = omega arith;
+      fewTargets = omega arith;
+      targets = omega arith;
+      fewScenarios = omega arith;
+      rising = omega arith;
+      scenarios = (record { number = omega arith; least = omega arith; most = omega arith; tree = ignited-tree-valid }, tt);
+      fewRecords = omega arith;
+    }
+
 pub specimen-holds : SpecimenHolds
 unfolding ifEq ifLe ifLt shareOf splitOf greatest logarithm probitTable greatestChance chanceOf byKind fireProbitBy settingShare fireDeathBy flashDeath blastDeath deathBy blastRowOf blastProbitBy blastDamageBy heatProbitBy heatDamageBy sphereProbitBy sphereDamageBy fireChanceBy fireJudged fireDamageBy damageBy effectBy listedBy sumOver some joinOver numbersBelow bytes encode targetRecords effectRecords treeRecords scenarioRecords leaksOf openRecords countOf recordsOf bytesOf treeOutcomes scenarioOutcomes outcomesOf judgement kindTotal overEffects unjudgedOf sumAt marginAt exactAt gradeOf listedAt dominoOf shownOf specimen
 specimen-holds = record { valid = specimen-valid; bytes = refl; shown = refl }
@@ -168,3 +190,7 @@ tank-farm-holds = record { valid = tank-farm-valid; bytes = refl; shown = refl }
 pub fireballs-hold : FireballsHold
 unfolding ifEq ifLe ifLt shareOf splitOf greatest logarithm probitTable greatestChance chanceOf rootOf clockOf byKind fireProbitBy settingShare fireDeathBy flashDeath blastDeath deathBy blastRowOf blastProbitBy blastDamageBy heatProbitBy heatDamageBy sphereProbitBy sphereDamageBy fireChanceBy fireJudged fireDamageBy damageBy effectBy listedBy sumOver some joinOver numbersBelow bytes encode targetRecords effectRecords treeRecords scenarioRecords leaksOf openRecords countOf recordsOf bytesOf treeOutcomes scenarioOutcomes outcomesOf judgement kindTotal overEffects unjudgedOf sumAt marginAt exactAt gradeOf listedAt dominoOf shownOf fireballs
 fireballs-hold = record { valid = fireballs-valid; bytes = refl; shown = refl }
+
+pub ignited-holds : IgnitedHolds
+unfolding ifEq ifLe ifLt shareOf splitOf greatest logarithm probitTable greatestChance chanceOf placeOf column ignition clockOf byKind fireProbitBy settingShare fireDeathBy flashDeath blastDeath deathBy blastRowOf blastProbitBy blastDamageBy heatProbitBy heatDamageBy sphereProbitBy sphereDamageBy fireChanceBy fireJudged fireDamageBy damageBy effectBy listedBy sumOver some joinOver numbersBelow bytes encode targetRecords effectRecords treeRecords scenarioRecords leaksOf openRecords countOf recordsOf bytesOf treeOutcomes scenarioOutcomes outcomesOf judgement kindTotal overEffects unjudgedOf sumAt marginAt exactAt gradeOf listedAt dominoOf shownOf ignited
+ignited-holds = record { valid = ignited-valid; bytes = refl; shown = refl }

@@ -8,10 +8,11 @@ use native.Mathlib.Omega.{arith}
 use lib.ListN.{length}
 use Rattle.numeric.specs.Share.{certain, splitOf}
 use Rattle.numeric.proofs.ShareLaws.{share-plain, share-le}
+use Rattle.ignition.proofs.Laws.{curves-hold}
 use Rattle.model.specs.Bounds.{mostAbove}
 use Rattle.model.specs.Sums.{sumOver}
-use Rattle.model.specs.Content.{Branching, chance, Tree, outcome, branching, Scenario, Content}
-use Rattle.model.specs.Valid.{ValidOutcome, ValidTree, ValidScenario, Valid}
+use Rattle.model.specs.Content.{Branching, given, onCurve, chance, Tree, outcome, branching, Scenario, Content}
+use Rattle.model.specs.Valid.{ValidBranching, ValidOutcome, ValidTree, ValidScenario, Valid}
 use Rattle.model.specs.Outcomes.{Outcome, above, firstWeight, secondWeight, treeOutcomes, scenarioOutcomes, outcomesOf}
 use Rattle.model.proofs.ListLaws.{each-at, sum-append, join-found}
 
@@ -57,6 +58,11 @@ pub record Branch (f w q g v : ℕ) : Type 0 where
 
 first-weight : (w p u : ℕ) → w ≡ u * certain → firstWeight w p ≡ u * p
 first-weight w p u e = rw (e, mul-right-comm u certain p) (mul-div-left (u * p) (omega arith))
+
+-- a valid branching's chance, given or on a curve
+pub chance-le : (b : Branching) → ValidBranching b → chance b ≤ certain
+chance-le (given p) v = v
+chance-le (onCurve c r) v = curves-hold .bounded c r
 
 pub first-branch : (f w p : ℕ) → p ≤ certain → Branch f w p (splitOf f p .first) (firstWeight w p)
 unfolding splitOf
@@ -106,8 +112,8 @@ module _ (P : ℕ → ℕ → List ℕ → Type 0)
       subst (Known targets P) (sym (List·Memᴰ·eq-of-singleton m)) (record { valid = v; few = d; holds = h })
   tree-outcome targets leak f w path (branching b l r) v d h o m =
       ⊎-elim
-      (λ i. tree-outcome targets leak _ _ _ l (v .2) (omega (arith, v .0)) (down f w _ _ _ path (v .0) (first-branch f w (chance b) (v .1)) h) o i)
-      (λ i. tree-outcome targets leak _ _ _ r (v .3) (omega (arith, v .0)) (down f w _ _ _ path (v .0) (second-branch f w (chance b) (v .1)) h) o i)
+      (λ i. tree-outcome targets leak _ _ _ l (v .2) (omega (arith, v .0)) (down f w _ _ _ path (v .0) (first-branch f w (chance b) (chance-le b (v .1))) h) o i)
+      (λ i. tree-outcome targets leak _ _ _ r (v .3) (omega (arith, v .0)) (down f w _ _ _ path (v .0) (second-branch f w (chance b) (chance-le b (v .1))) h) o i)
       (List·Memᴰ·append-cases (treeOutcomes _ _ _ _ l) m)
 
   pub scenario-outcome : (c : Content) → Valid c → (s : Scenario) → List·Memᴰ s (c .scenarios) → P (s .frequency) (s .frequency * 10 ^ 48) []

@@ -9,13 +9,13 @@ use lib.ListN.{length}
 use Rattle.state.specs.declared.Counts.{Counts}
 use Rattle.model.specs.Bounds.{mostTargets, mostScenarios}
 use Rattle.model.specs.Sums.{joinOver}
-use Rattle.model.specs.Content.{given, chance, Target, described, Effect, inSeconds, timed, targetOf, intensity, duration, Tree, outcome, branching, Scenario}
-use Rattle.model.specs.Format.{Record, targetRec, effectRec, targetRecords, effectRecords, treeRecords, scenarioRecords}
-use Rattle.model.specs.Valid.{Each, RiseFrom, ValidTarget, ValidEffect, ValidTree, ValidScenario}
+use Rattle.model.specs.Content.{Branching, given, onCurve, Target, described, Effect, inSeconds, timed, targetOf, intensity, duration, Tree, outcome, branching, Scenario}
+use Rattle.model.specs.Format.{Record, targetRec, branchingRec, effectRec, targetRecords, effectRecords, treeRecords, scenarioRecords}
+use Rattle.model.specs.Valid.{Each, RiseFrom, ValidTarget, ValidBranching, ValidEffect, ValidTree, ValidScenario}
 use Rattle.model.specs.Faults.{context, declaring, leaking, ownFault, contextAfter}
 use Rattle.model.specs.MachineTheorems.{Numbered}
 use Rattle.model.proofs.Accepts.{Fits}
-use Rattle.model.proofs.FaultLaws.{target-facts, target-free, LeakTaken, leak-facts, leak-free, branching-facts, branching-free, outcome-facts, outcome-free, effect-facts, effect-free, unit-facts, unit-free}
+use Rattle.model.proofs.FaultLaws.{target-facts, target-free, LeakTaken, leak-facts, leak-free, branching-facts, branching-free, chance-facts, chance-free, outcome-facts, outcome-free, effect-facts, effect-free, unit-facts, unit-free}
 use Rattle.model.proofs.ContextLaws.{advanced, kindAtEnd, nextAtEnd, numberedRecord, after-tree}
 use Rattle.model.proofs.ListLaws.{each-append, each-parts}
 use Rattle.model.proofs.AcceptLaws.{AllOwn, own-append, own-parts}
@@ -36,6 +36,11 @@ effect-widths : (e : Effect) → Fits (effectRec e) → (intensity e < 2 ^ 32) �
 unfolding Fits
 effect-widths (inSeconds t i d) f = (f .1, f .2)
 effect-widths (timed t i d u) f = (f .1, f .2)
+
+branching-fits : (b : Branching) → ValidBranching b → Fits (branchingRec b)
+unfolding Fits
+branching-fits (given p) v = omega arith
+branching-fits (onCurve c r) v = (omega (arith, v .1), v .3)
 
 pub effects-valid : (es : List Effect) (k : Counts) (trees : List ℕ) (left kind next : ℕ) → AllOwn (context k trees left kind next) (effectRecords es) → Each Fits (effectRecords es)
     → Each (ValidEffect kind (k .targets)) es × RiseFrom targetOf next es
@@ -68,7 +73,7 @@ tree-own (outcome j es) k above rest kind next v = (
   effects-own es (advanced k 1) rest (length es) j 0 (v .effects) (v .rising),
 )
 tree-own (branching b l r) k above rest kind next v = (
-  branching-free above (chance b) (v .0) (v .1),
+  branching-free above b (v .0) (chance-free b (v .1)),
   own-append (context (advanced k 1) (suc above ∷ suc above ∷ rest) 0 kind next) (treeRecords l) (treeRecords r)
       (tree-own l (advanced k 1) (suc above) (suc above ∷ rest) kind next (v .2))
       (rw (after-tree l (advanced k 1) (suc above) (suc above ∷ rest) kind next)
@@ -83,11 +88,11 @@ tree-valid (outcome j es) k above rest kind next o f =
     let w = effects-valid es (advanced k 1) rest (length es) j 0 (o .1) (f .1) in
     record { known = h .known; few = h .few; none = h .none; effects = w .0; rising = w .1 }
 tree-valid (branching b l r) k above rest kind next o f =
-    let h = branching-facts above (chance b) (o .0) in
+    let h = branching-facts above b (o .0) in
     let w = own-parts (context (advanced k 1) (suc above ∷ suc above ∷ rest) 0 kind next) (treeRecords l) (treeRecords r) (o .1) in
     let g = each-parts Fits (treeRecords l) (treeRecords r) (f .1) in (
       h .0,
-      h .1,
+      chance-facts b (h .1) (f .0),
       tree-valid l (advanced k 1) (suc above) (suc above ∷ rest) kind next (w .0) (g .0),
       tree-valid r (advanced (advanced k 1) (length (treeRecords l))) (suc above) rest (kindAtEnd l) (nextAtEnd l)
           (rw (after-tree l (advanced k 1) (suc above) (suc above ∷ rest) kind next) at (w .1)) (g .1),
@@ -99,9 +104,8 @@ tree-fits (outcome j es) targets above h v =
     let a = v .known in
     let b = v .few in
     ((omega arith, omega arith), effects-fit es j targets h (v .effects))
-tree-fits (branching (given p) l r) targets above h v =
-    let a = v .1 in
-    (omega arith, each-append Fits (treeRecords l) (treeRecords r) (tree-fits l targets (suc above) h (v .2)) (tree-fits r targets (suc above) h (v .3)))
+tree-fits (branching b l r) targets above h v =
+    (branching-fits b (v .1), each-append Fits (treeRecords l) (treeRecords r) (tree-fits l targets (suc above) h (v .2)) (tree-fits r targets (suc above) h (v .3)))
 
 -- The least number that the next scenario may have: any before the first one, then one above the last.
 pub record LeastNumber (k : Counts) (least : ℕ) : Type 0 where

@@ -10,7 +10,7 @@ use Rattle.model.specs.Bounds.{mostAbove}
 use Rattle.model.specs.Content.{chance}
 use Rattle.model.specs.Valid.{ChancesValid}
 use Rattle.model.specs.MeaningTheorems.{product, WeightsAreExact, WeightsAddUp}
-use Rattle.model.proofs.OutcomeLaws.{weight-total, scenario-total, Branch, scenario-outcome}
+use Rattle.model.proofs.OutcomeLaws.{chance-le, weight-total, scenario-total, Branch, scenario-outcome}
 
 pow-add : (a m n : ℕ) → a ^ (m + n) ≡ a ^ m * a ^ n
 pow-add a m zero = rw (add-zero, pow-zero, mul-one) refl
@@ -75,4 +75,4 @@ weights-are-exact c v s i o m =
 pub weights-add-up : WeightsAddUp
 unfolding ChancesValid
 weights-add-up = scenario-total ChancesValid (λ f w. w)
-    (λ b l r v. (v .1, v .2, λ f w. weight-total w (chance b) (v .0)))
+    (λ b l r v. (v .1, v .2, λ f w. weight-total w (chance b) (chance-le b (v .0))))

@@ -1,5 +1,8 @@
 -- To be believed. 01, "Records": every bound of a study, in one place. Assumes nothing.
+use mathlib.Core.Path.{_≡_}
 use Prim.Native.Nat.{ℕ}
+use lib.ListN.{length}
+use Rattle.ignition.specs.Ignition.{curves}
 
 abbrev pub mostTargets : ℕ
 mostTargets = 256
@@ -36,3 +39,11 @@ mostClass = 5
 
 abbrev pub mostSetting : ℕ
 mostSetting = 2
+
+-- 02, request P3: the greatest number of an ignition curve
+abbrev pub mostCurve : ℕ
+mostCurve = 13
+
+-- every curve has its row, and every row is a curve's
+abbrev pub CurvesAreAll : Type 0
+CurvesAreAll = length curves ≡ mostCurve

@@ -1,16 +1,22 @@
 -- To be believed. The content of a study, free of bytes: 01, "Records". Assumes nothing.
 use mathlib.Core.List.{List}
 use Prim.Native.Nat.{ℕ}
+use Rattle.ignition.specs.Ignition.{ignition}
 use Rattle.terms.specs.Terms.{seconds, clockOf}
 use Rattle.terms.specs.declared.Clock.{Clock}
 use Rattle.terms.specs.declared.Target.{Target as Facts}
 
--- a branching, with the chance of its first branch in millionths
+-- a branching
 pub data Branching : Type 0 where
+  -- the chance of its first branch, in millionths
   given : ℕ → Branching
+  -- 02, request P3: an ignition curve, and a release rate in tenths of a gram per second
+  onCurve : ℕ → ℕ → Branching
 
+-- the chance of its first branch
 abbrev pub chance : Branching → ℕ
 chance (given p) = p
+chance (onCurve curve rate) = ignition curve rate
 
 -- a target; its number is its place in the study, counted from 0
 pub data Target : Type 0 where

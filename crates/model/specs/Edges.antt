@@ -10,6 +10,7 @@ use lib.ListN.{length, replicate}
 use Rattle.numeric.specs.Choice.{pick}
 use Rattle.probit.specs.Table.{probits}
 use Rattle.probit.specs.Chance.{chanceOf}
+use Rattle.ignition.specs.Ignition.{row, ignition}
 use Rattle.terms.specs.Terms.{explosion, seconds, clockOf}
 use Rattle.terms.specs.declared.Judged.{Judged}
 use Rattle.terms.specs.declared.Target.{Target as Facts}
@@ -20,7 +21,7 @@ use Rattle.vulnerability.specs.Effect.{effectOn}
 use Rattle.vulnerability.specs.Domino.{listedBy}
 use Rattle.vulnerability.specs.Figures.{and, same}
 use Rattle.model.specs.Sums.{sumOver, joinOver}
-use Rattle.model.specs.Content.{given, described, inSeconds, timed}
+use Rattle.model.specs.Content.{given, onCurve, described, inSeconds, timed}
 use Rattle.model.specs.Format.{Record, openingRec, targetRec, leakRec, branchingRec, outcomeRec, effectRec, closingRec, encode}
 use Rattle.model.specs.Faults.{Context, context, fault}
 use Rattle.model.specs.Report.{gradeOf}
@@ -59,6 +60,10 @@ pub data Edge : Type 0 where
   timedFires : ℕ → ℕ → ℕ → ℕ → ℕ → ℕ → Edge
   -- chance, leak; whether the equipment is on the domino list
   listings : ℕ → ℕ → Bool → Edge
+  -- curve; how many chances it has, and their sum
+  curveRows : ℕ → ℕ → ℕ → Edge
+  -- curve, rate; chance of ignition
+  ignites : ℕ → ℕ → ℕ → Edge
   -- what is known before a record, the record; its fault
   faults : Context → Record → ℕ → Edge
   -- the bytes before a call, the call; the numbers of its answer
@@ -111,6 +116,8 @@ stands (timedY u q d y) = sameZ (fireProbit (clockOf u .constant) q d) y
 stands (timedDeaths u q d c) = eqb (deathOf (clockOf u) 1 0 q d .chance) c
 stands (timedFires u class v q d c) = eqb (damageOf (clockOf u) 1 class v q d .chance) c
 stands (listings c leak b) = same (listedBy c leak) b
+stands (curveRows curve n total) = and (eqb (length (row curve)) n) (eqb (sumOver (λ p. p) (row curve)) total)
+stands (ignites curve rate p) = eqb (ignition curve rate) p
 stands (faults x r n) = eqb (fault x r) n
 stands (replies before call l) = sameList (numbersOf (answer before call)) l
 
@@ -138,6 +145,9 @@ effect t i d = effectRec (inSeconds t i d)
 
 abbrev pub timedEffect : ℕ → ℕ → ℕ → ℕ → Record
 timedEffect t i d u = effectRec (timed t i d u)
+
+abbrev pub onCurveRec : ℕ → ℕ → Record
+onCurveRec curve rate = branchingRec (onCurve curve rate)
 
 -- the bytes of some records after the opening of study 7
 abbrev pub sent : List Record → List ℕ
@@ -206,6 +216,19 @@ timings =
     timedFires 1 5 100000 15001 6000 0 ∷ timedFires 1 5 100000 15001 6001 440000 ∷
     []
 
+-- 02, request P3: every row by its sum; on both sides of each rate, on a curve where the two chances differ, and above the last; curve 8 at 500 kg/s; no curve 0 or 14.
+unfoldable pub ignitions : List Edge
+ignitions =
+    curveRows 1 13 1926200 ∷ curveRows 2 13 519200 ∷ curveRows 3 13 110500 ∷ curveRows 4 13 2274200 ∷ curveRows 5 13 646200 ∷
+    curveRows 6 13 312200 ∷ curveRows 7 13 2932500 ∷ curveRows 8 13 354100 ∷ curveRows 9 13 94000 ∷ curveRows 10 13 21700 ∷
+    curveRows 11 13 4453900 ∷ curveRows 12 13 2394800 ∷ curveRows 13 13 346000 ∷
+    ignites 1 1 1000 ∷ ignites 1 1000 1000 ∷ ignites 1 1001 1300 ∷ ignites 1 2000 1300 ∷ ignites 1 2001 1900 ∷ ignites 1 5000 1900 ∷ ignites 1 5001 2500 ∷
+    ignites 1 10000 2500 ∷ ignites 1 10001 7400 ∷ ignites 1 20000 7400 ∷ ignites 1 20001 20400 ∷ ignites 1 50000 20400 ∷ ignites 1 50001 33900 ∷ ignites 1 100000 33900 ∷
+    ignites 1 100001 56400 ∷ ignites 1 200000 56400 ∷ ignites 1 200001 110700 ∷ ignites 1 500000 110700 ∷ ignites 1 500001 184200 ∷ ignites 1 1000000 184200 ∷ ignites 1 1000001 306500 ∷
+    ignites 12 2000000 355500 ∷ ignites 12 2000001 643400 ∷ ignites 12 5000000 643400 ∷ ignites 12 5000001 1000000 ∷ ignites 12 10000000 1000000 ∷ ignites 12 10000001 1000000 ∷ ignites 12 4294967295 1000000 ∷
+    ignites 8 2000000 51700 ∷ ignites 8 5000000 120000 ∷ ignites 0 1000 0 ∷ ignites 14 1000 0 ∷
+    []
+
 -- Grades, and the faults of records: guards each power of ten, each bound, the numbers 2 to 6 and their order, and the closing count.
 unfoldable pub edges : List Edge
 edges =
@@ -227,6 +250,10 @@ edges =
     -- branchings: 7 above, chance
     faults (beforeTree 7) (branchingRec (given 1000000)) 0 ∷ faults (beforeTree 8) (branchingRec (given 0)) 5 ∷
     faults (beforeTree 7) (branchingRec (given 1000001)) 3 ∷ faults (beforeTree 8) (branchingRec (given 1000001)) 5 ∷
+    -- by a curve: curve and rate, after the order and the 7 above
+    faults (beforeTree 7) (onCurveRec 1 1) 0 ∷ faults (beforeTree 7) (onCurveRec 13 4294967295) 0 ∷ faults (beforeTree 7) (onCurveRec 0 1) 3 ∷
+    faults (beforeTree 7) (onCurveRec 14 1) 3 ∷ faults (beforeTree 7) (onCurveRec 13 0) 3 ∷ faults (beforeTree 8) (onCurveRec 13 1) 5 ∷ faults (beforeTree 8) (onCurveRec 0 0) 5 ∷
+    faults (beforeEffect 2 1 0) (onCurveRec 1 1) 2 ∷ faults (between 9 0 1 8 0) (onCurveRec 14 0) 2 ∷
     -- outcomes: kind, 256 effects, none for kind 0
     faults (beforeTree 8) (outcomeRec 1 256) 0 ∷ faults (beforeTree 8) (outcomeRec 1 257) 3 ∷ faults (beforeTree 8) (outcomeRec 5 256) 0 ∷
     faults (beforeTree 8) (outcomeRec 6 0) 3 ∷ faults (beforeTree 8) (outcomeRec 0 0) 0 ∷ faults (beforeTree 8) (outcomeRec 0 1) 3 ∷
@@ -285,6 +312,12 @@ calls =
     replies (sent (place 0 0 0 0 ∷ leakRec 1 1 ∷ outcomeRec 3 1 ∷ []) ++ (8 ∷ 0 ∷ 0 ∷ 0 ∷ 0 ∷ 0 ∷ 0 ∷ 0 ∷ 1 ∷ [])) (piece []) (0 ∷ 40 ∷ []) ∷
     replies (sent (place 0 0 0 0 ∷ leakRec 1 1 ∷ outcomeRec 3 1 ∷ []) ++ (8 ∷ 0 ∷ 0 ∷ 0 ∷ 0 ∷ 0 ∷ 0 ∷ 0 ∷ 1 ∷ [])) (piece (2 ∷ [])) (3 ∷ 31 ∷ []) ∷
     replies (sent (place 0 0 0 0 ∷ leakRec 1 1 ∷ outcomeRec 3 1 ∷ []) ++ (8 ∷ 0 ∷ 0 ∷ 0 ∷ 0 ∷ 0 ∷ 0 ∷ 0 ∷ 1 ∷ [])) (piece (1 ∷ [])) (0 ∷ 41 ∷ []) ∷
+    -- branchings of both kinds, one upon the other, the ninth with curve 0; one by a curve, read to the last byte of its rate
+    replies [] (piece (sent (leakRec 1 1 ∷ replicate 4 (branchingRec (given 0)) ++ replicate 4 (onCurveRec 13 1)))) (0 ∷ 62 ∷ []) ∷
+    replies [] (piece (sent (leakRec 1 1 ∷ replicate 4 (onCurveRec 13 1) ++ replicate 4 (branchingRec (given 0)) ++ (onCurveRec 0 0 ∷ [])))) (5 ∷ 62 ∷ []) ∷
+    replies (sent (leakRec 1 1 ∷ []) ++ (10 ∷ 1 ∷ 0 ∷ 0 ∷ 0 ∷ [])) (piece []) (0 ∷ 23 ∷ []) ∷
+    replies (sent (leakRec 1 1 ∷ []) ++ (10 ∷ 1 ∷ 0 ∷ 0 ∷ 0 ∷ [])) (piece (0 ∷ [])) (3 ∷ 18 ∷ []) ∷
+    replies (sent (leakRec 1 1 ∷ []) ++ (10 ∷ 1 ∷ 0 ∷ 0 ∷ 0 ∷ [])) (piece (1 ∷ [])) (0 ∷ 24 ∷ []) ∷
     -- opening and closing alone: 0, 9 and 7
     replies [] (piece (sent (closingRec 2 0 ∷ []))) (0 ∷ 18 ∷ []) ∷ replies (sent (closingRec 2 0 ∷ [])) totals (0 ∷ 18 ∷ 7 ∷ 2 ∷ replicate 9 0) ∷
     replies (sent (closingRec 2 0 ∷ [])) (target 0) (refusal 9 18 5) ∷ replies (sent (closingRec 2 0 ∷ [])) (domino []) (refusal 0 18 1) ∷
@@ -303,7 +336,7 @@ calls =
     []
 
 abbrev pub EdgesStand : Type 0
-EdgesStand = (allStand chances ≡ true) × (allStand fatalities ≡ true) × (allStand damages ≡ true) × (allStand spheres ≡ true) × (allStand timings ≡ true) × (allStand edges ≡ true) × (allStand calls ≡ true)
+EdgesStand = (allStand chances ≡ true) × (allStand fatalities ≡ true) × (allStand damages ≡ true) × (allStand spheres ≡ true) × (allStand timings ≡ true) × (allStand ignitions ≡ true) × (allStand edges ≡ true) × (allStand calls ≡ true)
 
 -- A margin of 1 is too little one unit off: the specimen's exact sum at target 0 is 600,000 units, so 10^54 parts and no other number make a unit of it.
 abbrev pub MarginIsStrict : Type 0

@@ -7,8 +7,8 @@ use Rattle.numeric.specs.Share.{certain}
 use Rattle.terms.specs.Terms.{noEffect, fireball, flashFire, people, individual, tenthsUnit}
 use Rattle.terms.specs.declared.Target.{Target as Facts}
 use Rattle.state.specs.declared.Counts.{Counts}
-use Rattle.model.specs.Bounds.{mostTargets, mostScenarios, mostRecords, mostAbove, mostVolume, leastFrequency, mostFrequency, mostEffects, mostKind, mostClass, mostSetting}
-use Rattle.model.specs.Content.{Branching, chance, Target, facts, Effect, inSeconds, timed, targetOf, intensity, duration}
+use Rattle.model.specs.Bounds.{mostTargets, mostScenarios, mostRecords, mostAbove, mostVolume, leastFrequency, mostFrequency, mostEffects, mostKind, mostClass, mostSetting, mostCurve}
+use Rattle.model.specs.Content.{Branching, given, onCurve, Target, facts, Effect, inSeconds, timed, targetOf, intensity, duration}
 use Rattle.model.specs.Format.{openingKind, targetKind, leakKind, branchingKind, outcomeKind, effectKind, closingKind, Record, openingRec, targetRec, leakRec, branchingRec, outcomeRec, effectRec, closingRec}
 
 -- the place of a record in 01's order, by the number of its kind in 01's table
@@ -48,8 +48,13 @@ leakFault scenarios last n f =
     (ifEq scenarios 0 0
     (ifLt last n 0 4))))
 
-unfoldable pub branchingFault : ℕ → ℕ → ℕ
-branchingFault above p = ifLt mostAbove above 5 (ifLt certain p 3 0)
+-- 02, request P3: 3 for a curve that there is not, and for rate 0
+unfoldable pub chanceFault : Branching → ℕ
+chanceFault (given p) = ifLt certain p 3 0
+chanceFault (onCurve c r) = ifEq c 0 3 (ifLt mostCurve c 3 (ifEq r 0 3 0))
+
+unfoldable pub branchingFault : ℕ → Branching → ℕ
+branchingFault above b = ifLt mostAbove above 5 (chanceFault b)
 
 unfoldable pub outcomeFault : ℕ → ℕ → ℕ
 outcomeFault k n =
@@ -92,7 +97,7 @@ unfoldable pub ownFault : Context → Record → ℕ
 ownFault x (openingRec n) = 0
 ownFault x (targetRec n t) = targetFault (x .counts .targets) n (facts t)
 ownFault x (leakRec n f) = leakFault (x .counts .scenarios) (x .counts .last) n f
-ownFault x (branchingRec b) = branchingFault (getD (x .trees) 0 0) (chance b)
+ownFault x (branchingRec b) = branchingFault (getD (x .trees) 0 0) b
 ownFault x (outcomeRec k n) = outcomeFault k n
 ownFault x (effectRec e) = unitFault e (effectFault (x .counts .targets) (x .kind) (x .next) (targetOf e) (intensity e) (duration e))
 ownFault x (closingRec n s) = closingFault (x .counts .records) (x .counts .leaks) n s

@@ -3,7 +3,7 @@ use mathlib.Core.List.{List, [], _∷_, _++_}
 use Prim.Native.Nat.{ℕ, zero, suc, _+_, _/_, _%_, _^_}
 use lib.ListN.{length}
 use Rattle.model.specs.Sums.{sumOver, joinOver}
-use Rattle.model.specs.Content.{Branching, given, Target, described, Effect, inSeconds, timed, Tree, outcome, branching, Scenario, Content}
+use Rattle.model.specs.Content.{Branching, given, onCurve, Target, described, Effect, inSeconds, timed, Tree, outcome, branching, Scenario, Content}
 
 -- the first byte of a record says its kind
 abbrev pub openingKind : ℕ
@@ -31,6 +31,10 @@ closingKind = 7
 abbrev pub timedKind : ℕ
 timedKind = 8
 
+-- 02, request P3: a branching by an ignition curve
+abbrev pub curveKind : ℕ
+curveKind = 10
+
 -- the record kinds of 01's table
 pub data Record : Type 0 where
   -- study number
@@ -57,6 +61,7 @@ encode (openingRec n) = openingKind ∷ bytes 4 n
 encode (targetRec n (described f)) = targetKind ∷ bytes 2 n ++ bytes 1 (f .class) ++ bytes 1 (f .setting) ++ bytes 4 (f .volume)
 encode (leakRec n f) = leakKind ∷ bytes 4 n ++ bytes 8 f
 encode (branchingRec (given p)) = branchingKind ∷ bytes 4 p
+encode (branchingRec (onCurve c r)) = curveKind ∷ bytes 1 c ++ bytes 4 r
 encode (outcomeRec k n) = outcomeKind ∷ bytes 1 k ++ bytes 2 n
 encode (effectRec (inSeconds t i d)) = effectKind ∷ bytes 2 t ++ bytes 4 i ++ bytes 2 d
 encode (effectRec (timed t i d u)) = timedKind ∷ bytes 2 t ++ bytes 4 i ++ bytes 2 d ++ bytes 1 u

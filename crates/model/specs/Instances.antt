@@ -1,9 +1,9 @@
--- Proved. Four contents with their bytes and their figures, as numbers. Assumes nothing.
+-- Proved. Five contents with their bytes and their figures, as numbers. Assumes nothing.
 use mathlib.Core.Path.{_≡_}
 use mathlib.Core.List.{List, [], _∷_, _++_}
 use Prim.Native.Nat.{ℕ, zero, suc}
 use lib.ListN.{length}
-use Rattle.model.specs.Content.{given, Target, described, Effect, inSeconds, timed, Tree, outcome, branching, Content}
+use Rattle.model.specs.Content.{given, onCurve, Target, described, Effect, inSeconds, timed, Tree, outcome, branching, Content}
 use Rattle.model.specs.Format.{leaksOf, countOf, bytesOf}
 use Rattle.model.specs.Valid.{Valid}
 use Rattle.model.specs.Report.{kindTotal, unjudgedOf, sumAt, marginAt, exactAt, gradeOf, dominoOf}
@@ -293,3 +293,59 @@ fireballsShown =
 
 abbrev pub FireballsHold : Type 0
 FireballsHold = Instance fireballs fireballsBytes fireballsShown
+
+-- Chances by curves and given ones in one tree (02, request P3). Curve 8 at 500 kg/s, a tabulated rate, is 12 %: 12,000,000 of 100,000,000 go to the pool fire, and 6 % of
+-- them are 720,000. Of the rest 25 % explode: 22,000,000, and 72 % of them are 15,840,000. Curve 12 just above 0.2 kg/s is its 0.11 % at 0.5 kg/s: 72,600 of
+-- 66,000,000 go to the flash fire.
+unfoldable pub ignited : Content
+ignited =
+    record {
+      number = 11;
+      targets = target 0 0 0 ∷ target 1 0 500 ∷ [];
+      scenarios =
+          record {
+            number = 1;
+            frequency = 100000000;
+            tree =
+                branching (onCurve 8 5000000) (outcome 1 (inSeconds 0 12500 20 ∷ []))
+                (branching (given 250000) (outcome 5 (inSeconds 0 20000 0 ∷ inSeconds 1 70000 0 ∷ []))
+                (branching (onCurve 12 2001) (outcome 4 (inSeconds 0 1 0 ∷ [])) (outcome 0 [])));
+          }
+          ∷ [];
+    }
+
+abbrev pub ignitedBytes : List ℕ
+ignitedBytes =
+    1 ∷ 0 ∷ 0 ∷ 0 ∷ 11 ∷
+    2 ∷ 0 ∷ 0 ∷ 0 ∷ 0 ∷ 0 ∷ 0 ∷ 0 ∷ 0 ∷
+    2 ∷ 0 ∷ 1 ∷ 1 ∷ 0 ∷ 0 ∷ 0 ∷ 1 ∷ 244 ∷
+    3 ∷ 0 ∷ 0 ∷ 0 ∷ 1 ∷ 0 ∷ 0 ∷ 0 ∷ 0 ∷ 5 ∷ 245 ∷ 225 ∷ 0 ∷
+    10 ∷ 8 ∷ 0 ∷ 76 ∷ 75 ∷ 64 ∷
+    5 ∷ 1 ∷ 0 ∷ 1 ∷
+    6 ∷ 0 ∷ 0 ∷ 0 ∷ 0 ∷ 48 ∷ 212 ∷ 0 ∷ 20 ∷
+    4 ∷ 0 ∷ 3 ∷ 208 ∷ 144 ∷
+    5 ∷ 5 ∷ 0 ∷ 2 ∷
+    6 ∷ 0 ∷ 0 ∷ 0 ∷ 0 ∷ 78 ∷ 32 ∷ 0 ∷ 0 ∷
+    6 ∷ 0 ∷ 1 ∷ 0 ∷ 1 ∷ 17 ∷ 112 ∷ 0 ∷ 0 ∷
+    10 ∷ 12 ∷ 0 ∷ 0 ∷ 7 ∷ 209 ∷
+    5 ∷ 4 ∷ 0 ∷ 1 ∷
+    6 ∷ 0 ∷ 0 ∷ 0 ∷ 0 ∷ 0 ∷ 1 ∷ 0 ∷ 0 ∷
+    5 ∷ 0 ∷ 0 ∷ 0 ∷
+    7 ∷ 0 ∷ 0 ∷ 0 ∷ 16 ∷ 0 ∷ 0 ∷ 0 ∷ 0 ∷ 5 ∷ 245 ∷ 225 ∷ 0 ∷ []
+
+abbrev pub ignitedShown : Shown
+ignitedShown =
+    record {
+      records = 16;
+      leaks = 100000000;
+      kinds = 65927400 ∷ 12000000 ∷ 0 ∷ 0 ∷ 72600 ∷ 22000000 ∷ [];
+      unjudged = 0;
+      sums = 792600 ∷ 15840000 ∷ [];
+      margins = 9 ∷ 3 ∷ [];
+      grades = 1 ∷ 3 ∷ [];
+      domino = 1 ∷ [];
+      exacts = 792600000000000000000000000000000000000000000000000000000000 ∷ 15840000000000000000000000000000000000000000000000000000000000 ∷ [];
+    }
+
+abbrev pub IgnitedHolds : Type 0
+IgnitedHolds = Instance ignited ignitedBytes ignitedShown

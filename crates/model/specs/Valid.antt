@@ -5,8 +5,8 @@ use Prim.Native.Nat.{ℕ, suc, _^_, _<_, _≤_}
 use lib.ListN.{length}
 use Rattle.numeric.specs.Share.{certain}
 use Rattle.terms.specs.Terms.{noEffect, fireball, flashFire, people, individual, tenthsUnit}
-use Rattle.model.specs.Bounds.{mostTargets, mostScenarios, mostRecords, mostAbove, mostVolume, leastFrequency, mostFrequency, mostEffects, mostKind, mostClass, mostSetting}
-use Rattle.model.specs.Content.{Branching, chance, Target, facts, Effect, inSeconds, timed, targetOf, intensity, duration, Tree, outcome, branching, Scenario, Content}
+use Rattle.model.specs.Bounds.{mostTargets, mostScenarios, mostRecords, mostAbove, mostVolume, leastFrequency, mostFrequency, mostEffects, mostKind, mostClass, mostSetting, mostCurve}
+use Rattle.model.specs.Content.{Branching, given, onCurve, Target, facts, Effect, inSeconds, timed, targetOf, intensity, duration, Tree, outcome, branching, Scenario, Content}
 use Rattle.model.specs.Format.{countOf}
 
 -- every element of a list has a property
@@ -26,8 +26,10 @@ pub record ValidTarget (t : Target) : Type 0 where
   pub equipment : (facts t .class ≡ people → ⊥) → facts t .setting ≡ individual
   pub volume : facts t .volume ≤ mostVolume
 
+-- a chance is at most certainty; 02, request P3: a curve is one of the curves, and a rate is not nought
 abbrev pub ValidBranching : Branching → Type 0
-ValidBranching b = chance b ≤ certain
+ValidBranching (given p) = p ≤ certain
+ValidBranching (onCurve c r) = (1 ≤ c) × (c ≤ mostCurve) × (1 ≤ r) × (r < 2 ^ 32)
 
 -- 02, request P6: the unit of an effect's duration, where it has one, is 0 or 1
 abbrev pub ValidUnit : Effect → Type 0

@@ -5,11 +5,11 @@ use Prim.Native.Nat.{ℕ, zero, suc, _+_, _*_}
 use lib.ListN.{length, getD, take, drop}
 use Rattle.numeric.specs.Choice.{ifEq, ifLe}
 use Rattle.terms.specs.declared.Target.{Target as Facts}
-use Rattle.model.specs.Content.{Branching, given, Target, described, Effect, inSeconds, timed, Tree, outcome, branching, Scenario, Content}
-use Rattle.model.specs.Format.{openingKind, targetKind, leakKind, branchingKind, outcomeKind, effectKind, closingKind, timedKind, Record, openingRec, targetRec, leakRec, branchingRec, outcomeRec, effectRec, closingRec}
+use Rattle.model.specs.Content.{Branching, given, onCurve, Target, described, Effect, inSeconds, timed, Tree, outcome, branching, Scenario, Content}
+use Rattle.model.specs.Format.{openingKind, targetKind, leakKind, branchingKind, outcomeKind, effectKind, closingKind, timedKind, curveKind, Record, openingRec, targetRec, leakRec, branchingRec, outcomeRec, effectRec, closingRec}
 use Rattle.model.specs.Faults.{Context, start, role, fault, contextAfter}
 
--- 01, "Records", and 02, request P6: the length of a kind's body; 0 for an unknown kind
+-- 01, "Records", and 02, requests P3 and P6: the length of a kind's body; 0 for an unknown kind
 unfoldable pub bodyLength : ℕ → ℕ
 bodyLength k =
     ifEq k openingKind 4
@@ -19,7 +19,8 @@ bodyLength k =
     (ifEq k outcomeKind 3
     (ifEq k effectKind 8
     (ifEq k closingKind 12
-    (ifEq k timedKind 9 0)))))))
+    (ifEq k timedKind 9
+    (ifEq k curveKind 5 0))))))))
 
 -- the number in n bytes from a place on, the most significant first
 unfoldable pub field : List ℕ → ℕ → ℕ → ℕ
@@ -39,7 +40,8 @@ decode l =
     (ifEq (getD l 0 0) outcomeKind (outcomeRec (field l 1 1) (field l 2 2))
     (ifEq (getD l 0 0) effectKind (effectRec (inSeconds (field l 1 2) (field l 3 4) (field l 7 2)))
     (ifEq (getD l 0 0) timedKind (effectRec (timed (field l 1 2) (field l 3 4) (field l 7 2) (field l 9 1)))
-    (closingRec (field l 1 4) (field l 5 8))))))))
+    (ifEq (getD l 0 0) curveKind (branchingRec (onCurve (field l 1 1) (field l 2 4)))
+    (closingRec (field l 1 4) (field l 5 8)))))))))
 
 -- bytes cut into whole records; what is left is empty, a record cut short, or starts with an unknown kind byte
 pub record Cut : Type 0 where

@@ -15,3 +15,6 @@ pub const CLOSING: u8 = 7;
 
 // an effect with the unit of its duration
 pub const TIMED_EFFECT: u8 = 8;
+
+// a branching by an ignition curve
+pub const CURVE_BRANCHING: u8 = 10;

@@ -10,7 +10,7 @@ use lib.ListN.{length, getD, take, drop, replicate, length-drop, take-append-dro
 use lib.Seq.{take-all, drop-cons, drop-drop, getD-drop, length-take-le, take-add, take-take}
 use lib.Dec.{T}
 use Rattle.numeric.specs.Choice.{pick, ifEq}
-use Rattle.numeric.proofs.ChoiceLaws.{picked-first, picked-second, ne-case, ge-case, eq-both, le-both, eq-second, lt-second}
+use Rattle.numeric.proofs.ChoiceLaws.{picked-first, picked-second, eq-both, le-both, eq-elim}
 use Rattle.state.specs.declared.Core.{Core}
 use Rattle.state.specs.declared.Reading.{Reading}
 use Rattle.model.specs.Verdict.{bodyLength, decode}
@@ -120,38 +120,24 @@ length-at e = ap (λ (x : ℕ). bodyLength x + 1) e
 no-false : false ≡ true → ⊥
 no-false e = subst T (sym e) tt
 
--- the kinds of a scenario's records: from 3 to 8, but not 7
-pub scenario-kinds : (k : ℕ) → ofScenario k ≡ true → (3 ≤ k) × (k ≤ 8) × (k ≡ 7 → ⊥)
+-- the kinds of a scenario's records
+pub scenario-cases : (P : ℕ → Type 0) → P 3 → P 4 → P 5 → P 6 → P 8 → P 10 → (k : ℕ) → ofScenario k ≡ true → P k
 unfolding ofScenario
-scenario-kinds k e =
-    let a = lt-second _ _ _ _ _ e no-false in
-    let b = lt-second _ _ _ _ _ (a .1) no-false in
-    let c = eq-second _ _ _ _ _ (b .1) no-false in
-    (a .0, b .0, c .0)
+scenario-cases P p3 p4 p5 p6 p8 p10 k e =
+    eq-elim e (λ z _. at z p3) (λ _ e. eq-elim e (λ z _. at z p4) (λ _ e. eq-elim e (λ z _. at z p5) (λ _ e. eq-elim e (λ z _. at z p6)
+    (λ _ e. eq-elim e (λ z _. at z p8) (λ _ e. eq-elim e (λ z _. at z p10) (λ _ e. absurd (no-false e)))))))
+  where
+    at : {n : ℕ} → k ≡ n → P n → P k
+    at z p = subst P (sym z) p
 
-pub other-kinds : (k n : ℕ) → ofScenario k ≡ false → 3 ≤ n → n ≤ 8 → (n ≡ 7 → ⊥) → k ≡ n → ⊥
-unfolding ofScenario
-other-kinds k n e l h z q =
-    let t : true ≡ ofScenario k = ge-case _ _ _ _ (omega (arith, l, q)) (ge-case _ _ _ _ (omega (arith, h, q)) (ne-case _ _ _ _ (λ y. z (sym q ∙ y)) refl)) in
-    subst T (t ∙ e) tt
+-- no other kind is one of them
+pub other-kinds : (k n : ℕ) → ofScenario k ≡ false → ofScenario n ≡ true → k ≡ n → ⊥
+other-kinds k n e h q = subst T (sym h ∙ ap ofScenario (sym q) ∙ e) tt
 
 -- they are known
 pub scenario-known : (k : ℕ) → ofScenario k ≡ true → 0 < bodyLength k
-unfolding bodyLength
-scenario-known k h =
-    let w = scenario-kinds k h in
-    let z : bodyLength k ≡ 0 → ⊥ =
-    λ e.
-    let a = eq-second _ _ _ _ _ e (λ q. omega arith) in
-    let b = eq-second _ _ _ _ _ (a .1) (λ q. omega arith) in
-    let leak = eq-second _ _ _ _ _ (b .1) (λ q. omega arith) in
-    let branching = eq-second _ _ _ _ _ (leak .1) (λ q. omega arith) in
-    let outcome = eq-second _ _ _ _ _ (branching .1) (λ q. omega arith) in
-    let effect = eq-second _ _ _ _ _ (outcome .1) (λ q. omega arith) in
-    let closing = eq-second _ _ _ _ _ (effect .1) (λ q. omega arith) in
-    let timed = eq-second _ _ _ _ _ (closing .1) (λ q. omega arith) in
-    omega (arith, w .0, w .1, leak .0, branching .0, outcome .0, effect .0, closing .0, timed .0) in
-    omega (arith, z)
+unfolding bodyLength ifEq
+scenario-known = scenario-cases (λ k. 0 < bodyLength k) (omega arith) (omega arith) (omega arith) (omega arith) (omega arith) (omega arith)
 
 -- the bytes begin with an effect of either kind
 abbrev pub IsEffect : List ℕ → Type 0

@@ -5,9 +5,9 @@ use mathlib.Core.Logic.{_⊎_}
 use mathlib.Core.List.{List}
 use Prim.Native.Nat.{ℕ, _+_, _-_, _<_, _≤_}
 use lib.ListN.{length, getD, take, drop}
-use Rattle.numeric.specs.Choice.{ifEq, ifLt}
+use Rattle.numeric.specs.Choice.{ifEq}
 use Rattle.state.specs.declared.Reading.{Reading}
-use Rattle.model.specs.Format.{leakKind, closingKind, timedKind}
+use Rattle.model.specs.Format.{leakKind, branchingKind, outcomeKind, effectKind, timedKind, curveKind}
 use Rattle.model.specs.Verdict.{bodyLength, decode}
 use Rattle.model.specs.Machine.{State, most64, openPhase, recordRead, cleared, readAll}
 
@@ -19,7 +19,13 @@ pub record Between (h : Reading) : Type 0 where
 
 -- the kinds of a scenario's records: leaks, branchings, outcomes and effects
 unfoldable pub ofScenario : ℕ → Bool
-ofScenario k = ifLt k leakKind false (ifLt timedKind k false (ifEq k closingKind false true))
+ofScenario k =
+    ifEq k leakKind true
+    (ifEq k branchingKind true
+    (ifEq k outcomeKind true
+    (ifEq k effectKind true
+    (ifEq k timedKind true
+    (ifEq k curveKind true false)))))
 
 -- the length of the record that some bytes begin with, kind byte included
 abbrev pub lengthOf : List ℕ → ℕ

@@ -1,6 +1,9 @@
 // The fault of a record where a study's bounds are compared (document 01, "Numbers the desk says no with"); 0 is none.
 ghost use mathlib.Core.Path.{_≡_};
-ghost use Rattle.model.specs.Faults.{targetFault, leakFault, branchingFault, outcomeFault};
+ghost use lib.Dec.{ltb};
+ghost use Rattle.model.specs.Bounds.{mostAbove};
+ghost use Rattle.model.specs.Content.{given, onCurve};
+ghost use Rattle.model.specs.Faults.{targetFault, leakFault, chanceFault, branchingFault, outcomeFault};
 ghost use Rattle.model.specs.Verdict.{field, factsAt};
 ghost use Rattle.model.specs.Machine.{top, aboveOf};
 ghost use Rattle.study.specs.Placing.{placeFault};
@@ -89,19 +92,50 @@ pub(crate) fn outcome_fault(kind: u8, effects: u16) -> u8
     0
 }
 
-// The faults of a branching and of a target but for their place.
-pub(crate) fn own_branching(c: Core, chance: u32, stack: &[u64; 9]) -> u8
-    ensures { λ r. ⌜ r ≡ branchingFault (aboveOf (top (now (stack .entry)) (c .branch .height))) chance ⌝ }
+// Whether a branching here has too many above it.
+fn too_deep(c: Core, stack: &[u64; 9]) -> bool
+    ensures { λ r. ⌜ r ≡ ltb mostAbove (aboveOf (top (now (stack .entry)) (c .branch .height))) ⌝ }
 {
     let b = c.branch;
     let tree = trees::next_tree(stack, b.height);
-    if Study::MOST_ABOVE < (tree % 16) as u8 {
+    Study::MOST_ABOVE < (tree % 16) as u8
+}
+
+fn curve_fault(curve: u8, rate: u32) -> u8
+    ensures { λ r. ⌜ r ≡ chanceFault (onCurve curve rate) ⌝ }
+{
+    if curve == 0 {
+        return 3;
+    }
+    if Study::MOST_CURVE < curve {
+        return 3;
+    }
+    if rate == 0 {
+        return 3;
+    }
+    0
+}
+
+// The faults of a branching, of one by a curve and of a target but for their place.
+pub(crate) fn own_branching(c: Core, chance: u32, stack: &[u64; 9]) -> u8
+    ensures { λ r. ⌜ r ≡ branchingFault (aboveOf (top (now (stack .entry)) (c .branch .height))) (given chance) ⌝ }
+{
+    if too_deep(c, stack) {
         return 5;
     }
     if Study::MOST_CHANCE < chance {
         return 3;
     }
     0
+}
+
+pub(crate) fn own_curve(c: Core, curve: u8, rate: u32, stack: &[u64; 9]) -> u8
+    ensures { λ r. ⌜ r ≡ branchingFault (aboveOf (top (now (stack .entry)) (c .branch .height))) (onCurve curve rate) ⌝ }
+{
+    if too_deep(c, stack) {
+        return 5;
+    }
+    curve_fault(curve, rate)
 }
 
 pub(crate) fn own_target(c: Core, p: &[u8]) -> u8

@@ -57,6 +57,9 @@ impl Study {
 
     pub const MOST_CHANCE: u32 = 1_000_000;
 
+    // the greatest number of an ignition curve
+    pub const MOST_CURVE: u8 = 13;
+
     pub const MOST_KIND: u8 = outcome::EXPLOSION;
 
     pub const MOST_CLASS: u8 = class::PIPE;

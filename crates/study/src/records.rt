@@ -4,7 +4,7 @@ ghost use mathlib.Core.Bool.{false};
 ghost use mathlib.Core.List.{List};
 ghost use Prim.Native.Nat.{ℕ, _+_, _<_, _≤_};
 ghost use lib.ListN.{getD};
-ghost use Rattle.model.specs.Content.{given, described};
+ghost use Rattle.model.specs.Content.{given, onCurve, described};
 ghost use Rattle.model.specs.Format.{openingRec, targetRec, leakRec, branchingRec, outcomeRec, closingRec};
 ghost use Rattle.model.specs.Verdict.{bodyLength, decode, field, factsAt};
 ghost use Rattle.model.specs.Machine.{state, core, refusedWith, recordRead};
@@ -13,6 +13,7 @@ ghost use Rattle.study.specs.Spans.{ofScenario, lengthOf};
 use crate::bounds::leak_fault;
 use crate::bounds::outcome_fault;
 use crate::bounds::own_branching;
+use crate::bounds::own_curve;
 use crate::bounds::own_target;
 use crate::bounds::place_fault;
 use faults::own_closing;
@@ -89,6 +90,25 @@ pub(crate) fn read_branching(c: Core, p: &[u8], stack: &mut [u64; 9]) -> Core
     if own != 0 {
         return refused(c, own);
     }
+    trees::take_branching(c, chance, stack)
+}
+
+// A branching whose chance is that of an ignition curve at a release rate.
+pub(crate) fn read_curve(c: Core, p: &[u8], stack: &mut [u64; 9]) -> Core
+    requires { ⌜ decode (now p) ≡ branchingRec (onCurve (field (now p) 1 1) (field (now p) 2 4)) ⌝ }
+    ensures { λ r. ⌜ ((q s m f : List ℕ) → state r q (now (stack .exit)) s m f ≡ recordRead (state c q (now (stack .entry)) s m f) (decode (now (p .entry)))) ⌝ }
+{
+    let misplaced = place_fault(c, record::BRANCHING);
+    if misplaced != 0 {
+        return refused(c, misplaced);
+    }
+    let curve = decoding::byte_at_1(p);
+    let rate = decoding::word_at_2(p);
+    let own = own_curve(c, curve, rate, stack);
+    if own != 0 {
+        return refused(c, own);
+    }
+    let chance = ignition::chance(curve, rate);
     trees::take_branching(c, chance, stack)
 }
 

@@ -13,6 +13,7 @@ ghost use Rattle.study.specs.Spans.{ofScenario, lengthOf, afterFirst, Re
 use crate::following::read_effects;
 use crate::records::Run;
 use crate::records::read_branching;
+use crate::records::read_curve;
 use crate::records::read_leak;
 use crate::records::read_outcome;
 use state::Branch;
@@ -39,16 +40,25 @@ pub(crate) fn between(h: Reading) -> bool
 pub(crate) fn of_scenario(kind: u8) -> bool
     ensures { λ r. ⌜ r ≡ ofScenario kind ⌝ }
 {
-    if kind < record::LEAK {
-        return false;
+    if kind == record::LEAK {
+        return true;
     }
-    if record::TIMED_EFFECT < kind {
-        return false;
+    if kind == record::BRANCHING {
+        return true;
     }
-    if kind == record::CLOSING {
-        return false;
+    if kind == record::OUTCOME {
+        return true;
     }
-    true
+    if kind == record::EFFECT {
+        return true;
+    }
+    if kind == record::TIMED_EFFECT {
+        return true;
+    }
+    if kind == record::CURVE_BRANCHING {
+        return true;
+    }
+    false
 }
 
 // The length of an effect's record, by its kind.
@@ -94,7 +104,8 @@ pub(crate) fn entered_at(k: Counts, b: Branch, y: Tally, at: u64, n: u8) -> Core
 }
 
 // A leak, a branching, an outcome, or an effect with the effects that follow it, at a place among the bytes. A record is read in a slice of sixteen,
-// where no field's end need be tested. The lent array has the totals of the kinds; those in the tally are old.
+// where no field's end need be tested; among these kinds only a branching by a curve is above a timed effect. The lent array has the totals of the kinds;
+// those in the tally are old.
 fn read_one(
     k: Counts,
     b: Branch,
@@ -113,20 +124,25 @@ fn read_one(
 {
     let first = &p[0..16];
     let kind = decoding::kind(first);
-    if kind == record::LEAK {
-        let c = entered_at(k, b, y, at, 13);
-        let r = read_leak(c, first, stack);
-        return Run { core: r, at: 13 };
-    }
     if kind == record::BRANCHING {
         let c = entered_at(k, b, y, at, 5);
         let r = read_branching(c, first, stack);
         return Run { core: r, at: 5 };
     }
+    if record::TIMED_EFFECT < kind {
+        let c = entered_at(k, b, y, at, 6);
+        let r = read_curve(c, first, stack);
+        return Run { core: r, at: 6 };
+    }
     if kind == record::OUTCOME {
         let c = entered_at(k, b, y, at, 4);
         let r = read_outcome(c, first, stack, kinds);
         return Run { core: r, at: 4 };
+    }
+    if kind == record::LEAK {
+        let c = entered_at(k, b, y, at, 13);
+        let r = read_leak(c, first, stack);
+        return Run { core: r, at: 13 };
     }
     let n = effect_length(kind);
     let c = entered_at(k, b, y, at, n);

@@ -24,13 +24,12 @@ use state::Reading;
 fn next_here(h: Reading, bytes: &[u8]) -> bool
     ensures { λ r. ⌜ (r ≡ true → Next h (now (bytes .entry))) ⌝ }
 {
+    if bytes.len() < 16 {
+        return false;
+    }
     if between(h) {
         if h.place <= 18_446_744_073_709_551_602 {
-            if 16 <= bytes.len() {
-                if 0 < decoding::body_length(bytes[0]) {
-                    return true;
-                }
-            }
+            return 0 < decoding::body_length(bytes[0]);
         }
     }
     false

@@ -1,11 +1,13 @@
 -- `study::records::read_other` meets its contract, kind by kind. Assumes nothing.
-use mathlib.Core.Path.{_≡_, sym, _∙_}
-use Prim.Native.Nat.{ℕ, _≤_}
-use native.Mathlib.Omega.{arith}
+use mathlib.Core.Path.{_≡_, refl, sym, _∙_}
+use mathlib.Core.Bool.{true}
+use Prim.Native.Nat.{ℕ}
 use lib.ListN.{getD}
 use Rattle.model.specs.Format.{closingRec}
 use Rattle.model.specs.Verdict.{decode, field}
 use Rattle.decoding.proofs.DecodeLaws.{decode-opening, decode-target, decode-closing}
+use Rattle.numeric.specs.Choice.{ifEq}
+use Rattle.study.specs.Spans.{ofScenario}
 use Rattle.study.proofs.SpanLaws.{length-at, other-kinds}
 use Rattle.study.proofs.KindTotalLaws.{Other, other-read}
 use borrow.Author.Needs.{needs}
@@ -43,18 +45,13 @@ returns-2 c =
 
 -- what is left is a closing
 closing-at : (c : tie.Else2) → let p = c .before .before .before .before .args .p .now in decode p ≡ closingRec (field p 1 4) (field p 5 8)
+unfolding ofScenario ifEq
 closing-at c =
     let k = c .before .before in
     let e = k .kind .ensures in
     let p = k .before .before .args .p .now in
-    let no : (n : ℕ) → 3 ≤ n → n ≤ 8 → (n ≡ 7 → ⊥) → getD p 0 0 ≡ n → ⊥ = λ n. other-kinds _ n (k .before .before .pre) in
-    decode-closing p
-    (no 8 (omega arith) (omega arith) (λ z. omega arith))
-    (no 6 (omega arith) (omega arith) (λ z. omega arith))
-    (no 5 (omega arith) (omega arith) (λ z. omega arith))
-    (no 4 (omega arith) (omega arith) (λ z. omega arith))
-    (no 3 (omega arith) (omega arith) (λ z. omega arith))
-    (λ z. c .before .if1 .left (e ∙ z)) (λ z. c .if2 .left (e ∙ z))
+    let no : (n : ℕ) → ofScenario n ≡ true → getD p 0 0 ≡ n → ⊥ = λ n. other-kinds _ n (k .before .before .pre) in
+    decode-closing p (no 10 refl) (no 8 refl) (no 6 refl) (no 5 refl) (no 4 refl) (no 3 refl) (λ z. c .before .if1 .left (e ∙ z)) (λ z. c .if2 .left (e ∙ z))
 
 read-closing-requires : tie.Need-read-closing-requires
 read-closing-requires c κs = closing-at c
