@@ -1,5 +1,6 @@
 -- `study::records::read_curve` meets its contract, case by case. Assumes nothing.
-use mathlib.Core.Path.{refl}
+use mathlib.Core.Path.{refl, _∙_, ap₂}
+use Rattle.ignition.specs.Ignition.{ignition}
 use Rattle.model.specs.Faults.{ownFault}
 use Rattle.model.specs.Machine.{accepted, withReading}
 use Rattle.model.proofs.Follows.{trees-next}
@@ -59,7 +60,7 @@ returns-3 c q s m f =
     let own = rw (w .byte-at-1 .ensures, r .word-at-2 .ensures, ← trees-next) at (o .own-curve .ensures) in
     rw (p .before .before .pre)
     (without-fault _ _ _ _ (p .place-fault .ensures) (e .if1 .left) own (h .before .if2 .left)
-    (rw (c .take-branching .ensures .0, c .take-branching .ensures .1, h .chance .ensures, w .byte-at-1 .ensures, r .word-at-2 .ensures) refl))
+    (rw (c .take-branching .ensures .0, c .take-branching .ensures .1, h .chance .ensures ∙ ap₂ ignition (w .byte-at-1 .ensures) (r .word-at-2 .ensures)) refl))
 
 pub read-curve-spec : {M : Type 1} → statement M
 read-curve-spec =
