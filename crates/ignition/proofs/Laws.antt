@@ -3,7 +3,7 @@ use mathlib.Core.Path.{_≡_, refl, sym, ap, subst}
 use mathlib.Core.Logic.{_⊎_, inl, inr, ⊎-elim}
 use mathlib.Core.Bool.{Bool, true, false}
 use mathlib.Core.List.{List, [], _∷_}
-use Prim.Native.Nat.{ℕ, zero, suc, _+_, _-_, _<_, _≤_}
+use Prim.Native.Nat.{ℕ, zero, suc, _+_, _-_, _*_, _/_, _%_, _<_, _≤_}
 use native.Mathlib.Nat.{le-trans, lt-of-le-of-lt, not-suc-le-zero, le-of-suc-le-suc, le-antisymm}
 use native.Mathlib.Decide.{decLe}
 use native.Mathlib.Omega.{arith}
@@ -153,22 +153,27 @@ curves-hold =
     whole zero l h = absurd (not-suc-le-zero l)
     whole (suc i) l h = sound-at curves tt i (omega arith) .long
 
--- ---- the lookup: a `match` on the curve, and one on the column in each arm
+-- ---- the lookup: a `match` on the place of a chance, the rows one after the other
 
--- what the arm of column n gives
-pub at-column : (table : List (List ℕ)) (i : ℕ) {j n : ℕ} → j ≡ n → entryOf table i n ≡ entryOf table i j
-at-column table i e = ap (entryOf table i) (sym e)
+-- what the arm of place n gives
+pub at-place : {k n : ℕ} → k ≡ n → entryOf curves (n / 13) (n % 13) ≡ entryOf curves (k / 13) (k % 13)
+at-place e = ap (λ (i : ℕ). entryOf curves (i / 13) (i % 13)) (sym e)
 
--- the last arm has the last column
-pub last-column : {j : ℕ} → j < 13 → NoneOf 12 j → j ≡ 12
-last-column h n = omega (arith, none-below 12 _ n)
+-- past the last row there is no chance
+pub past-the-rows : (k : ℕ) → NoneOf 169 k → 0 ≡ entryOf curves (k / 13) (k % 13)
+unfolding entryOf
+past-the-rows k n = let h : 13 ≤ k / 13 = omega (arith, none-below 169 k n) in rw (no-row curves (k / 13) h) refl
 
--- what the arm of curve n gives
-pub at-curve : (rate : ℕ) {curve n j : ℕ} → curve ≡ n → j ≡ column rate → entryOf ([] ∷ curves) n j ≡ ignition curve rate
+-- a curve's chance has its place
+pub curve-at : (curve rate j : ℕ) → 1 ≤ curve → j < 13 → j ≡ column rate → entryOf curves (((curve - 1) * 13 + j) / 13) (((curve - 1) * 13 + j) % 13) ≡ ignition curve rate
 unfolding ignition entryOf
-at-curve rate e f = rw (e, f) refl
+curve-at zero rate j h l e = absurd (not-suc-le-zero h)
+curve-at (suc i) rate j h l e =
+    let a : ((suc i - 1) * 13 + j) / 13 ≡ i = omega arith in
+    let b : ((suc i - 1) * 13 + j) % 13 ≡ j = omega arith in
+    rw (a, b, e) refl
 
--- there is no chance of any other curve
-pub no-curve : {curve : ℕ} (rate : ℕ) → NoneOf 14 curve → 0 ≡ ignition curve rate
+-- there is no curve 0
+pub no-curve : (curve rate : ℕ) → curve ≡ 0 → 0 ≡ ignition curve rate
 unfolding ignition
-no-curve rate n = rw (no-row ([] ∷ curves) _ (none-below 14 _ n)) refl
+no-curve curve rate e = rw e refl

@@ -15,6 +15,11 @@ pub share-all : (f c : ℕ) → certain ≤ c → shareOf f c ≡ f
 unfolding shareOf
 share-all f c h = rw (min-eq-right h) (mul-div-left f (omega arith))
 
+-- a chance above 1,000,000 counts as 1,000,000
+pub share-capped : (f c : ℕ) → shareOf f (min c certain) ≡ shareOf f c
+unfolding shareOf
+share-capped f c = let e : min (min c certain) certain ≡ min c certain = omega arith in rw e refl
+
 -- by the whole millions and the rest of the frequency
 pub share-parts : (f c : ℕ) → c ≤ certain → f / certain * c + f % certain * c / certain ≡ shareOf f c
 share-parts f c h =
