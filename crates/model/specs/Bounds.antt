@@ -1,4 +1,4 @@
--- To be believed. 01, "Records": every bound of a study, in one place. Assumes nothing.
+-- To be believed. 01, "Records", and 02, request P3: every bound of a study, in one place. Assumes nothing.
 use mathlib.Core.Path.{_≡_}
 use Prim.Native.Nat.{ℕ}
 use lib.ListN.{length}
