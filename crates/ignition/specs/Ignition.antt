@@ -42,6 +42,7 @@ column rate = placeOf rates rate
 abbrev pub row : ℕ → List ℕ
 row curve = getD ([] ∷ curves) curve []
 
+-- the chance of a curve at a rate; 0 of a curve that there is not
 unfoldable pub ignition : ℕ → ℕ → ℕ
 ignition curve rate = getD (row curve) (column rate) 0
 

@@ -1,5 +1,5 @@
 -- `study::whole::next_here` meets its contract, case by case. Assumes nothing.
-use mathlib.Core.Path.{subst, sym, _∙_}
+use mathlib.Core.Path.{subst, sym}
 use native.Mathlib.Omega.{arith}
 use lib.Dec.{T}
 use borrow.Author.Needs.{needs}
