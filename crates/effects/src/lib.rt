@@ -17,7 +17,7 @@ use terms::{Clock, class, outcome, unit};
 
 // How many effects were taken and how many bytes they have, the least target that the next one may name, and the effects of the study so far that no
 // rule judged.
-#[derive(Drop)]
+#[derive(Clone, Copy)]
 pub struct Taken {
     pub count: usize,
     pub at: usize,
@@ -26,7 +26,7 @@ pub struct Taken {
 }
 
 // How effects that are taken in one loop are timed: the kind and the length of their records, and their clock.
-#[derive(Drop)]
+#[derive(Clone, Copy)]
 pub struct Timing {
     pub kind: u8,
     pub length: usize,
@@ -34,14 +34,14 @@ pub struct Timing {
 }
 
 // Effects timed alike, and how many they are at most.
-#[derive(Drop)]
+#[derive(Clone, Copy)]
 struct Run {
     pub timing: Timing,
     pub top: usize,
 }
 
 // An effect: the least target that the next one may name, and 1 where no rule judged it. Both are 0 where it is not taken.
-#[derive(Drop)]
+#[derive(Clone, Copy)]
 struct Step {
     pub missed: u64,
     pub next: u32,

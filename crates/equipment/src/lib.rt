@@ -10,7 +10,7 @@ ghost use Rattle.equipment.specs.Damage.{blast_row_of, blast_probit_by, blast_da
 use terms::class;
 
 // A row of table D.2 for explosions: what the probit takes off, its factor in hundredths, and the threshold in Pa.
-#[derive(Drop)]
+#[derive(Clone, Copy)]
 pub struct BlastRow {
     pub constant: u32,
     pub factor: u16,

@@ -10,7 +10,7 @@ use state::{TargetReport, Totals};
 use terms::class;
 
 // A line of text: the first len bytes of the array.
-#[derive(Drop)]
+#[derive(Clone, Copy)]
 pub struct Line {
     text: [u8; 256],
     len: usize,

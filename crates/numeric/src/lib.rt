@@ -3,7 +3,7 @@ ghost use Rattle.std.specs.Prelude.{◌≡◌, ◌+◌, ◌-◌, ◌%◌, ◌≤
 ghost use Rattle.numeric.specs.Share.{certain, share_of, split_of};
 
 // The frequencies of the two branches of a branching.
-#[derive(Drop)]
+#[derive(Clone, Copy)]
 pub struct Branches {
     pub first: u64,
     pub second: u64,

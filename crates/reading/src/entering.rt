@@ -22,7 +22,7 @@ fn put_pending(p: &mut [u8; 16], at: u8, b: u8)
 }
 
 // The parts that go by value after a byte, and whether it made the record in the pending bytes whole: then it is still to be read.
-#[derive(Drop)]
+#[derive(Clone, Copy)]
 pub struct Entered {
     pub core: Core,
     pub whole: bool,

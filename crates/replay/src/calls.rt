@@ -5,7 +5,7 @@ ghost use Rattle.std.specs.Prelude.{◌≤◌, length};
 pub(crate) const MOST_NUMBERS: usize = 300;
 
 // A call: the length of a piece, a target's number, how many numbers are lent. Or the list has no call here, ends, or cannot be read.
-#[derive(Drop)]
+#[derive(Clone, Copy)]
 pub(crate) enum Call {
     Piece(u16),
     Totals,
@@ -17,14 +17,14 @@ pub(crate) enum Call {
 }
 
 // How many bytes were read so far, and whether the last read failed.
-#[derive(Drop)]
+#[derive(Clone, Copy)]
 struct Read {
     count: usize,
     failed: bool,
 }
 
 // Whether the list had enough bytes.
-#[derive(Drop)]
+#[derive(Clone, Copy)]
 enum Got {
     All,
     Short,

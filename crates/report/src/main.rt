@@ -4,7 +4,7 @@ use lines::Line;
 use study::{Study, Taken};
 
 // What a read left: the study with the answer to its last piece, whether there may be more, and whether the read failed.
-#[derive(Drop)]
+#[derive(Clone, Copy)]
 struct Turn {
     taken: Taken,
     more: bool,

@@ -10,7 +10,7 @@ pub const MOST_TARGETS: u16 = 256;
 
 // Where the reading stands.
 #[repr(C)]
-#[derive(Drop)]
+#[derive(Clone, Copy)]
 pub struct Reading {
     // bytes read so far
     pub place: u64,
@@ -28,7 +28,7 @@ pub struct Reading {
 
 // What the records so far add up to.
 #[repr(C)]
-#[derive(Drop)]
+#[derive(Clone, Copy)]
 pub struct Counts {
     // sum of the leak frequencies
     pub leaks: u64,
@@ -41,7 +41,7 @@ pub struct Counts {
 
 // Where in a tree the reading stands.
 #[repr(C)]
-#[derive(Drop)]
+#[derive(Clone, Copy)]
 pub struct Branch {
     // the leak's frequency
     pub leak: u64,
@@ -59,7 +59,7 @@ pub struct Branch {
 
 // Totals of the study.
 #[repr(C)]
-#[derive(Drop)]
+#[derive(Clone, Copy)]
 pub struct Tally {
     pub kind0: u64,
     pub kind1: u64,
@@ -73,7 +73,7 @@ pub struct Tally {
 
 // All of a study but its arrays.
 #[repr(C)]
-#[derive(Drop)]
+#[derive(Clone, Copy)]
 pub struct Core {
     pub reading: Reading,
     pub counts: Counts,
@@ -82,7 +82,7 @@ pub struct Core {
 }
 
 // What a study keeps of one target: its sum, its margin, and its facts packed with its mark on the domino list.
-#[derive(Drop)]
+#[derive(Clone, Copy)]
 pub struct Row {
     pub sum: u64,
     pub margin: u32,
@@ -91,7 +91,7 @@ pub struct Row {
 
 // A report of the whole study. A refused one has 0 in every field but number and place.
 #[repr(C)]
-#[derive(Drop)]
+#[derive(Clone, Copy)]
 pub struct Totals {
     pub number: u8,
     pub place: u64,
@@ -105,7 +105,7 @@ pub struct Totals {
 
 // A report of one target: its grade where it is a place of people (class 0), whether it is listed where it is equipment.
 #[repr(C)]
-#[derive(Drop)]
+#[derive(Clone, Copy)]
 pub struct TargetReport {
     pub number: u8,
     pub place: u64,
@@ -118,7 +118,7 @@ pub struct TargetReport {
 
 // A report of the domino list: how many numbers stand at the front of the lent list.
 #[repr(C)]
-#[derive(Drop)]
+#[derive(Clone, Copy)]
 pub struct DominoReport {
     pub number: u8,
     pub place: u64,

@@ -8,14 +8,14 @@ use state::Core;
 
 // The answer to a piece: its number and its place.
 #[repr(C)]
-#[derive(Drop)]
+#[derive(Clone, Copy)]
 pub struct Answer {
     pub number: u8,
     pub place: u64,
 }
 
 // What a piece makes of the parts that go by value, and its answer.
-#[derive(Drop)]
+#[derive(Clone, Copy)]
 pub struct Fed {
     pub core: Core,
     pub answer: Answer,

@@ -19,7 +19,7 @@ use terms::{class, outcome, setting};
 
 // A study being read, by value. No field is public: only a report shows a figure, and none before the end.
 #[repr(C)]
-#[derive(Drop)]
+#[derive(Clone, Copy)]
 pub struct Study {
     core: Core,
     // the bytes of the record that has begun

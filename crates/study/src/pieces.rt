@@ -6,7 +6,7 @@ use crate::Study;
 use crate::into::{Answer, feed_into};
 
 // A piece is read: the study after it, with the number and the place of the answer.
-#[derive(Drop)]
+#[derive(Clone, Copy)]
 pub struct Taken {
     pub study: Study,
     pub number: u8,

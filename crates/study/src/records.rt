@@ -13,7 +13,7 @@ use faults::own_closing;
 use state::{Core, record};
 
 // The study after some bytes, and how many they were.
-#[derive(Drop)]
+#[derive(Clone, Copy)]
 pub(crate) struct Run {
     pub(crate) core: Core,
     pub(crate) at: usize,

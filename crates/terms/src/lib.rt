@@ -10,14 +10,14 @@ ghost use Rattle.std.specs.Prelude.{◌≡◌};
 ghost use Rattle.terms.specs.Terms.{clock_of};
 
 // A chance in millionths, and whether a rule judged it: where none did, the chance is 0.
-#[derive(Drop)]
+#[derive(Clone, Copy)]
 pub struct Judged {
     pub chance: u32,
     pub judged: bool,
 }
 
 // What is known of a target: class, setting (0 for equipment) and volume in m³.
-#[derive(Drop)]
+#[derive(Clone, Copy)]
 pub struct Target {
     pub class: u8,
     pub setting: u8,
@@ -25,7 +25,7 @@ pub struct Target {
 }
 
 // How a fire's duration is counted: the longest that counts for people, what their probit takes off, and what it has to exceed to damage equipment.
-#[derive(Drop)]
+#[derive(Clone, Copy)]
 pub struct Clock {
     pub longest: u16,
     pub constant: u32,

@@ -17,7 +17,7 @@ fn pack(frequency: u64, above: u8) -> u64
 }
 
 // Both branches of a tree, packed, under one branching more.
-#[derive(Drop)]
+#[derive(Clone, Copy)]
 struct PackedBranches {
     pub first: u64,
     pub second: u64,
