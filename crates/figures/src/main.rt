@@ -1,4 +1,5 @@
 // Prints the figures of document 01, "Figures on both sides", that speak of branches, logarithms and chances, and those of document 02, requests P1, P2 and P6.
+#![tactic(auto)]
 use libc::STDOUT_FILENO;
 use numeric;
 use terms::{Target, class, outcome, setting, unit};

@@ -1,4 +1,5 @@
 // Where the reading of a study stands.
+#![tactic(auto)]
 mod entering;
 mod moving;
 

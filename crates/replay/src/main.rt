@@ -4,6 +4,7 @@
 // A list is `p`, a length and that many bytes for a piece, `t` for the totals, `g` and a number for one target, `d` and a number n, at most 300, for the domino
 // list into n lent numbers that hold 65535 before. Lengths and numbers have two bytes, most significant first. Anything else ends the list with a line
 // `bad call`. docs/REPLAY_LIST.md works out the answers to the stored lists.
+#![tactic(auto)]
 mod answers;
 mod calls;
 mod line;

@@ -1,4 +1,5 @@
 // Reads a study from standard input, in pieces as they come, and prints its report (document 01, "The specimen study").
+#![tactic(auto)]
 use libc::{STDERR_FILENO, STDIN_FILENO, STDOUT_FILENO};
 use lines::Line;
 use study::{Study, Taken};

@@ -1,4 +1,5 @@
 // Prints the report of each study that an argument names, one after the other. The file `stdout` is the files `data/NAME.expected`, joined in the order of the arguments.
+#![tactic(auto)]
 use libc::{STDERR_FILENO, STDOUT_FILENO};
 use lines::Line;
 use study::{Study, Taken};
