@@ -49,7 +49,7 @@ returns c =
     let g = c.near_step-near.ensures in
     let x = c.threshold-least.ensures in
     let q = log_by_step _ (omega (arith, e.if-n-lt2.false)) e.ranges.n.fits in
-    let same = by_tables _ _ _ _ _ _ (at_n e).ranges g x (elim c.if-mantissa-least.branch [ then-mantissa-least w ↦ lt_case _ _ _ _ w.if-mantissa-least.true w.less-is | else-mantissa-least w ↦ ge_case _ _ _ _ w.if-mantissa-least.false w.less-is ]) ∙ q in
+    let same = by_tables _ _ _ _ _ _ (at_n e).fits g x (elim c.if-mantissa-least.branch [ then-mantissa-least w ↦ lt_case _ _ _ _ w.if-mantissa-least.true w.less-is | else-mantissa-least w ↦ ge_case _ _ _ _ w.if-mantissa-least.false w.less-is ]) ∙ q in
     record {
       value = same;
       within = omega (arith, same, logarithm_le e.args.n);
