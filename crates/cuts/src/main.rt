@@ -37,12 +37,10 @@ fn after_empty(s: Study, bytes: &[u8]) -> Study {
 fn byte_by_byte(bytes: &[u8]) -> Taken {
     let s = Study::fresh();
     let mut t = s.piece(&bytes[..0]);
-    let mut i: usize = 0;
-    while i < bytes.len() {
+    for i in 0..bytes.len() {
         let u = after_empty(t.study, bytes);
         let next = i + 1;
         t = u.piece(&bytes[i..next]);
-        i = next;
     }
     t
 }
@@ -61,12 +59,10 @@ fn same(a: Taken, b: Taken) -> bool {
 
 // The first place inside at which a cut gives another answer, or the length.
 fn first_difference(bytes: &[u8], t: Taken) -> usize {
-    let mut at: usize = 1;
-    while at < bytes.len() {
+    for at in 1..bytes.len() {
         if !same(t, in_two(bytes, at)) {
             return at;
         }
-        at += 1;
     }
     bytes.len()
 }
