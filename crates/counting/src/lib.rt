@@ -1,4 +1,6 @@
 // All of a study but its arrays, after a record of each kind (the machine of the crate model).
+#![tactic(auto)]
+
 mod branches;
 mod counts;
 mod tallies;

@@ -1,4 +1,6 @@
 // The fields of a record in its bytes, which other bytes may follow: kind byte first, numbers most significant byte first (document 01, "Records").
+#![tactic(auto)]
+
 ghost use Rattle.std.specs.Prelude.{◌≡◌, ◌+◌, ◌*◌, ◌<◌, get_or};
 ghost use Rattle.numeric.specs.Fields.{field};
 ghost use Rattle.model.specs.Verdict.{body_length, facts_at};

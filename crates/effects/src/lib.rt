@@ -1,4 +1,6 @@
 // The effects of an outcome, taken one after the other while none has a fault.
+#![tactic(auto)]
+
 ghost use Rattle.std.specs.Prelude.{◌≡◌, true, false, ◌⊎◌, ℕ, ◌+◌, ◌-◌, ◌/◌, ◌<◌, ◌≤◌, min, length, get_or};
 ghost use Rattle.terms.specs.Terms.{no_effect, fireball, flash_fire, tenths_unit, people, atmospheric, pressurised, pipe};
 ghost use Rattle.terms.specs.declared.Clock.{Clock};

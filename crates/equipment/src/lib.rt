@@ -1,4 +1,6 @@
 // The chance of damage to equipment.
+#![tactic(auto)]
+
 ghost use Rattle.std.specs.Prelude.{◌≡◌, true, false, ◌+◌, ◌*◌, ◌/◌, ◌^◌, ◌<◌, ◌≤◌};
 ghost use Rattle.numeric.specs.Choice.{if_eq, if_lt};
 ghost use Rattle.log2.specs.Logarithm.{logarithm};

@@ -1,4 +1,6 @@
 // The fault of a record where none of a study's bounds is compared (document 01, "Numbers the desk says no with"); 0 is none.
+#![tactic(auto)]
+
 ghost use Rattle.std.specs.Prelude.{◌≡◌};
 ghost use Rattle.numeric.specs.Choice.{if_eq, if_lt};
 ghost use Rattle.numeric.specs.Fields.{field};

@@ -1,4 +1,6 @@
 // The chance of ignition by a curve and a release rate (02, request P3).
+#![tactic(auto)]
+
 ghost use Rattle.std.specs.Prelude.{◌≡◌, ◌/◌, ◌%◌, ◌<◌};
 ghost use Rattle.ignition.specs.Ignition.{curves, column, ignition};
 ghost use Rattle.ignition.specs.Tables.{entry_of};

@@ -1,5 +1,5 @@
 -- Laws of the logarithm. Assumes nothing.
-use mathlib.Core.Path.{◌≡◌, refl, sym, ◌∙◌, ap}
+use mathlib.Core.Path.{◌≡◌, refl, ◌∙◌, ap}
 use mathlib.Core.Bool.{Bool}
 use Prim.Native.Nat.{ℕ, zero, suc, ◌+◌, ◌-◌, ◌*◌, ◌%◌, ◌^◌, ◌<◌, ◌≤◌}
 use native.Mathlib.Nat.{le_trans, lt_of_lt_of_le, mul_assoc, mul_comm, mul_left_comm, mul-one, pow-zero, pow-suc, mul-zero, mul-suc, pow-le-pow_left, pow-lt-pow_left, le_of_mul-le-mul_right, lt_of_mul-lt-mul_right, mul-le-mul_right, not-le_of_lt}

@@ -1,5 +1,7 @@
 // The logarithm to base 2 in steps of a 256th (document 01's L), by the table of thresholds and a table of near steps. The latter is a `match` with an arm for
 // each entry: it stays among the program's constants, and nobody copies or lends it.
+#![tactic(auto)]
+
 ghost use Rattle.std.specs.Prelude.{◌≡◌, ◌≤◌, get_or};
 ghost use Rattle.log2.specs.Logarithm.{logarithm};
 ghost use Rattle.log2.specs.Tables.{near_steps};

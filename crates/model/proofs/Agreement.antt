@@ -1,7 +1,7 @@
 -- The machine says of bytes what the verdict says. Assumes nothing.
 use mathlib.Core.Path.{◌≡◌, refl, sym, ◌∙◌, ap, subst}
 use mathlib.Core.List.{List, [], ◌∷◌, ◌++◌, append_assoc}
-use Prim.Native.Nat.{ℕ, ◌+◌, ◌-◌, ◌<◌, ◌≤◌}
+use Prim.Native.Nat.{ℕ, ◌+◌, ◌<◌, ◌≤◌}
 use native.Mathlib.Decide.{ℕ_discrete}
 use native.Mathlib.Omega.{arith}
 use lib.ListN.{length, length-append}
@@ -16,7 +16,7 @@ use Rattle.model.specs.Report.{domino_of}
 use Rattle.model.specs.Faults.{Context, start, role, fault, context_after, context_after_all}
 use Rattle.model.specs.Verdict.{body_length, decode, cut, content_of, Verdict, unclosed, closed, refused, judge_left, judge, verdict}
 use Rattle.model.specs.Calls.{Bytes, totals_of, target_report_of, no_target}
-use Rattle.model.specs.Machine.{State, with_reading, refused_with, reading, begun, taken, core, fault_in, effect_state, accepted, record_read, cleared, step, read_all, fresh, totals_in, target_in, marked_in}
+use Rattle.model.specs.Machine.{State, with_reading, refused_with, reading, begun, taken, fault_in, effect_state, accepted, record_read, cleared, step, read_all, fresh, totals_in, target_in, marked_in}
 use Rattle.model.proofs.ListLaws.{each_append, each_parts}
 use Rattle.model.proofs.ContextLaws.{after_append}
 use Rattle.model.proofs.Accepts.{Accepts, Fits, WholeBytes}

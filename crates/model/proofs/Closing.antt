@@ -1,6 +1,5 @@
 -- A study is closed exactly when its bytes begin with those of a valid content. A refusal and a closing stay. Demand 3. Assumes nothing.
 use mathlib.Core.Path.{◌≡◌, refl, sym, ◌∙◌, ap, ap₂, subst}
-use mathlib.Core.Logic.{◌⊎◌, inl, inr}
 use mathlib.Core.List.{List, [], ◌∷◌, ◌++◌, append_assoc, append-nil, map, map-append}
 use Prim.Native.Nat.{ℕ, ◌+◌, ◌<◌}
 use native.Mathlib.Nat.{add_assoc, add-zero}
@@ -15,7 +14,7 @@ use Rattle.model.specs.Format.{Record, closing_rec, encode, open_records, count_
 use Rattle.model.specs.Valid.{Each, Valid}
 use Rattle.model.specs.Faults.{Context, start, role, fault, context_after, context_after_all}
 use Rattle.model.specs.Verdict.{decode, cut, content_of, Verdict, unclosed, closed, refused, judge_left, judge, verdict}
-use Rattle.model.specs.Calls.{Call, totals, target, gave_totals, gave_target, totals_of, target_report_of, answer, joined_after, joined, Bytes, Callable}
+use Rattle.model.specs.Calls.{Call, gave_totals, gave_target, totals_of, target_report_of, answer, joined_after, joined, Bytes, Callable}
 use Rattle.model.specs.Machine.{State, read_all, fresh, state_after_all, answer_in}
 use Rattle.model.specs.MachineTheorems.{Answers, ClosedFront, ClosedExactlyThen, ClosedContent, RefusalStays, ClosingStays, TotalsHold, TargetHolds, Demand3}
 use Rattle.model.proofs.ListLaws.{each_parts, join_append, join_one, each_join}

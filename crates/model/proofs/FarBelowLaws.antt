@@ -15,7 +15,7 @@ use Rattle.model.specs.Valid.{Each}
 use Rattle.model.specs.Faults.{Context, start, role, fault, counted, context_after}
 use Rattle.model.specs.Verdict.{body_length, decode, cut}
 use Rattle.model.specs.Calls.{joined}
-use Rattle.model.specs.Machine.{State, state, core, store, one_record, taken, begun, reading, refused_with, with_reading, accepted, record_read, cleared, step, read_all, fresh}
+use Rattle.model.specs.Machine.{State, state, core, store, one_record, taken, begun, refused_with, with_reading, accepted, record_read, cleared, step, read_all, fresh}
 use Rattle.model.specs.MachineTheorems.{FarBelow, NeverSaturates}
 use Rattle.model.proofs.Accepts.{WholeBytes}
 use Rattle.model.proofs.CodecLaws.{body_most}

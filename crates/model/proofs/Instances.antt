@@ -18,7 +18,7 @@ use Rattle.equipment.specs.Damage.{blast_row_of, blast_probit_by, blast_damage_b
 use Rattle.vulnerability.specs.Effect.{effect_by}
 use Rattle.vulnerability.specs.Domino.{listed_by}
 use Rattle.model.specs.Sums.{sum_over, some, join_over, numbers_below}
-use Rattle.model.specs.Content.{given, on_curve, Effect, in_seconds, timed, Tree, outcome, branching}
+use Rattle.model.specs.Content.{given, on_curve, in_seconds, timed, Tree, outcome, branching}
 use Rattle.model.specs.Format.{bytes, encode, target_records, effect_records, tree_records, scenario_records, leaks_of, open_records, count_of, records_of, bytes_of}
 use Rattle.model.specs.Valid.{ValidEffect, ValidTree, Valid}
 use Rattle.model.specs.Outcomes.{tree_outcomes, scenario_outcomes, outcomes_of}

@@ -37,7 +37,7 @@ module _ (Q : Tree → Type 0) (g : ℕ → ℕ → ℕ)
   tree_total leak f w path (branching b l r) q =
       let d = split b l r q in
       sum_append _ (tree_outcomes _ _ _ _ l) (tree_outcomes _ _ _ _ r)
-      ∙ ap₂ ◌+◌ (tree_total leak _ _ _ l d.0) (tree_total leak _ _ _ r d.1)
+      ∙ ap₂ ◌+◌ (tree_total leak (split_of f (chance b)).first _ _ l d.0) (tree_total leak (split_of f (chance b)).second _ _ r d.1)
       ∙ d.2 f w
 
   pub scenario_total : (s : Scenario) → Q s.tree
@@ -89,7 +89,7 @@ pub tree_leak : (leak f w : ℕ) (path : List ℕ) (t : Tree) (o : Outcome) → 
 unfolding tree_outcomes
 tree_leak leak f w path (outcome k es) o m = ap (λ (x : Outcome). x.leak) (Memᴰ.eq_of_singleton m)
 tree_leak leak f w path (branching b l r) o m =
-    ⊎_elim (tree_leak leak _ _ _ l o) (tree_leak leak _ _ _ r o)
+    ⊎_elim (tree_leak leak (split_of f (chance b)).first _ _ l o) (tree_leak leak (split_of f (chance b)).second _ _ r o)
     (Memᴰ.append_cases (tree_outcomes _ _ _ _ l) m)
 
 pub scenario_leak : (s : Scenario) (o : Outcome) → Memᴰ o (scenario_outcomes s) → o.leak ≡ s.frequency
@@ -113,8 +113,8 @@ module _ (P : ℕ → ℕ → List ℕ → Type 0)
       subst (Known targets P) (sym (Memᴰ.eq_of_singleton m)) (record { valid = v; few = d; holds = h })
   tree_outcome targets leak f w path (branching b l r) v d h o m =
       ⊎_elim
-      (λ i. tree_outcome targets leak _ _ _ l v.2 (omega (arith, v.0)) (down f w _ _ _ path v.0 (first_branch f w (chance b) (chance_le b v.1)) h) o i)
-      (λ i. tree_outcome targets leak _ _ _ r v.3 (omega (arith, v.0)) (down f w _ _ _ path v.0 (second_branch f w (chance b) (chance_le b v.1)) h) o i)
+      (λ i. tree_outcome targets leak (split_of f (chance b)).first _ _ l v.2 (omega (arith, v.0)) (down f w _ _ _ path v.0 (first_branch f w (chance b) (chance_le b v.1)) h) o i)
+      (λ i. tree_outcome targets leak (split_of f (chance b)).second _ _ r v.3 (omega (arith, v.0)) (down f w _ _ _ path v.0 (second_branch f w (chance b) (chance_le b v.1)) h) o i)
       (Memᴰ.append_cases (tree_outcomes _ _ _ _ l) m)
 
   pub scenario_outcome : (c : Content) → Valid c → (s : Scenario) → Memᴰ s c.scenarios → P s.frequency (s.frequency * 10 ^ 48) []

@@ -5,12 +5,12 @@ use Prim.Native.Nat.{ℕ, suc, ◌*◌, ◌^◌, ◌≤◌}
 use native.Mathlib.Nat.{le_step, add-le-add, le_trans, le_of_eq, mul-le-mul_right}
 use native.Mathlib.Omega.{arith}
 use lib.ListN.{length, length-append}
-use Rattle.numeric.specs.Share.{share_of}
+use Rattle.numeric.specs.Share.{share_of, split_of}
 use Rattle.numeric.proofs.ChoiceLaws.{eq_both}
 use Rattle.numeric.proofs.ShareLaws.{share_le}
 use Rattle.model.specs.Bounds.{most_scenarios, most_frequency}
 use Rattle.model.specs.Sums.{sum_over, join_over}
-use Rattle.model.specs.Content.{Effect, target_of, Tree, outcome, branching, Scenario, Content}
+use Rattle.model.specs.Content.{chance, Effect, target_of, Tree, outcome, branching, Scenario, Content}
 use Rattle.model.specs.Format.{target_records, effect_records, tree_records, scenario_records, leaks_of, open_records, count_of}
 use Rattle.model.specs.Valid.{ValidScenario, Valid}
 use Rattle.model.specs.Outcomes.{Outcome, tree_outcomes, scenario_outcomes, outcomes_of}
@@ -55,7 +55,7 @@ pub tree_effects : (leak f w : ℕ) (path : List ℕ) (t : Tree) → sum_over ef
 unfolding tree_outcomes tree_records sum_over
 tree_effects leak f w path (outcome k es) = let e = length_effects es in omega arith
 tree_effects leak f w path (branching b l r) =
-    rw (sum_append, length-append (tree_records l) (tree_records r)) (le_step (add-le-add (tree_effects leak _ _ _ l) (tree_effects leak _ _ _ r)))
+    rw (sum_append, length-append (tree_records l) (tree_records r)) (le_step (add-le-add (tree_effects leak (split_of f (chance b)).first _ _ l) (tree_effects leak (split_of f (chance b)).second _ _ r)))
 
 pub scenario_effects : (s : Scenario) → sum_over effect_count (scenario_outcomes s) ≤ length (scenario_records s)
 unfolding scenario_outcomes scenario_records

@@ -1,5 +1,5 @@
 -- To be believed. What each call answers, from the bytes joined before it and the call alone: 01, "Numbers the desk says no with". Assumes nothing.
-use Rattle.std.specs.Prelude.{Bool, true, false, List, [], ◌∷◌, ◌++◌, ℕ, ◌<◌, length, drop}
+use Rattle.std.specs.Prelude.{false, List, [], ◌∷◌, ◌++◌, ℕ, ◌<◌, length, drop}
 use Rattle.numeric.specs.Choice.{if_eq, if_le, if_lt}
 use Rattle.terms.specs.Terms.{no_effect, pool_fire, jet_fire, fireball, flash_fire, explosion, people}
 use Rattle.state.specs.declared.Totals.{Totals}

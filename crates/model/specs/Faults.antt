@@ -6,7 +6,7 @@ use Rattle.terms.specs.Terms.{no_effect, fireball, flash_fire, people, individua
 use Rattle.terms.specs.declared.Target.{Target as Facts}
 use Rattle.state.specs.declared.Counts.{Counts}
 use Rattle.model.specs.Bounds.{most_targets, most_scenarios, most_records, most_above, most_volume, least_frequency, most_frequency, most_effects, most_kind, most_class, most_setting, most_curve}
-use Rattle.model.specs.Content.{Branching, given, on_curve, Target, facts, Effect, in_seconds, timed, target_of, intensity, duration}
+use Rattle.model.specs.Content.{Branching, given, on_curve, facts, Effect, in_seconds, timed, target_of, intensity, duration}
 use Rattle.model.specs.Format.{opening_kind, target_kind, leak_kind, branching_kind, outcome_kind, effect_kind, closing_kind, Record, opening_rec, target_rec, leak_rec, branching_rec, outcome_rec, effect_rec, closing_rec}
 
 -- the place of a record in 01's order, by the number of its kind in 01's table

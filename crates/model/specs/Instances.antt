@@ -1,6 +1,6 @@
 -- Proved. Five contents with their bytes and their figures, as numbers. Assumes nothing.
 use Rattle.std.specs.Prelude.{◌≡◌, List, [], ◌∷◌, ◌++◌, ℕ, zero, suc, length}
-use Rattle.model.specs.Content.{given, on_curve, Target, described, Effect, in_seconds, timed, Tree, outcome, branching, Content}
+use Rattle.model.specs.Content.{given, on_curve, Target, described, in_seconds, timed, Tree, outcome, branching, Content}
 use Rattle.model.specs.Format.{leaks_of, count_of, bytes_of}
 use Rattle.model.specs.Valid.{Valid}
 use Rattle.model.specs.Report.{kind_total, unjudged_of, sum_at, margin_at, exact_at, grade_of, domino_of}

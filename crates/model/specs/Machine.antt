@@ -1,6 +1,6 @@
 -- For the proofs. The machine that reads a study byte by byte in fixed memory. It is total on every state: sums stop at the greatest number that
 -- their memory holds, and nothing is written past an end. Assumes nothing.
-use Rattle.std.specs.Prelude.{Bool, true, false, List, [], ◌∷◌, ◌++◌, ℕ, zero, suc, ◌+◌, ◌-◌, ◌*◌, ◌/◌, ◌%◌, ◌^◌, min, length, get_or, set, replicate}
+use Rattle.std.specs.Prelude.{Bool, true, false, List, [], ◌∷◌, ℕ, zero, suc, ◌+◌, ◌-◌, ◌*◌, ◌/◌, ◌%◌, min, length, get_or, set, replicate}
 use Rattle.numeric.specs.Choice.{pick, if_eq, if_le, if_lt}
 use Rattle.numeric.specs.Share.{share_of, split_of}
 use Rattle.terms.specs.Terms.{people}
@@ -19,7 +19,7 @@ use Rattle.state.specs.declared.TargetReport.{TargetReport}
 use Rattle.state.specs.declared.DominoReport.{DominoReport}
 use Rattle.model.specs.Bounds.{most_targets}
 use Rattle.model.specs.Sums.{numbers_below}
-use Rattle.model.specs.Content.{Branching, chance, Target, facts as facts_of, Effect, target_of, intensity, duration, clock}
+use Rattle.model.specs.Content.{chance, facts as facts_of, target_of, intensity, duration, clock}
 use Rattle.model.specs.Format.{Record, opening_rec, target_rec, leak_rec, branching_rec, outcome_rec, effect_rec, closing_rec}
 use Rattle.model.specs.Faults.{Context, context, fault}
 use Rattle.model.specs.Verdict.{body_length, decode}

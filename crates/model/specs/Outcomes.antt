@@ -1,8 +1,8 @@
 -- To be believed. The outcomes of a content: 01, "Frequencies down a tree", and the exact sum of "What the promises have to say". Assumes nothing.
-use Rattle.std.specs.Prelude.{List, [], ◌∷◌, ◌++◌, ℕ, ◌+◌, ◌-◌, ◌*◌, ◌/◌, ◌^◌, length}
+use Rattle.std.specs.Prelude.{List, [], ◌∷◌, ◌++◌, ℕ, ◌-◌, ◌*◌, ◌/◌, ◌^◌, length}
 use Rattle.numeric.specs.Share.{certain, split_of}
 use Rattle.model.specs.Sums.{join_over}
-use Rattle.model.specs.Content.{Branching, chance, Effect, Tree, outcome, branching, Scenario, Content}
+use Rattle.model.specs.Content.{chance, Effect, Tree, outcome, branching, Scenario, Content}
 
 -- an outcome of a scenario's tree
 pub record Outcome : Type 0 where

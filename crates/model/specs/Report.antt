@@ -1,11 +1,10 @@
 -- To be believed. What a report says of a content: 01, "Frequencies down a tree", "Sums, grades, list" and "What the promises have to say". Assumes nothing.
-use Rattle.std.specs.Prelude.{◌≡◌, Bool, true, false, ℕ, ◌+◌, ◌*◌, ◌^◌, length, get_or}
+use Rattle.std.specs.Prelude.{◌≡◌, Bool, false, ℕ, ◌+◌, ◌*◌, ◌^◌, length, get_or}
 use mathlib.Core.List.{List, Memᴰ}
 use Rattle.numeric.specs.Choice.{pick, if_eq, if_le}
 use Rattle.numeric.specs.Share.{share_of}
 use Rattle.terms.specs.Terms.{people, individual}
 use Rattle.terms.specs.declared.Judged.{Judged}
-use Rattle.terms.specs.declared.Target.{Target as Facts}
 use Rattle.vulnerability.specs.Effect.{effect_on}
 use Rattle.vulnerability.specs.Domino.{listed_by}
 use Rattle.model.specs.Sums.{sum_over, some, numbers_below}

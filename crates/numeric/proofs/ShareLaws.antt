@@ -1,6 +1,6 @@
 -- Laws of a share of a frequency. Assumes nothing.
 use mathlib.Core.Path.{◌≡◌, refl, sym, ◌∙◌, ap}
-use Prim.Native.Nat.{ℕ, ◌+◌, ◌-◌, ◌*◌, ◌/◌, ◌%◌, ◌<◌, ◌≤◌, min}
+use Prim.Native.Nat.{ℕ, ◌+◌, ◌*◌, ◌/◌, ◌%◌, ◌≤◌, min}
 use native.Mathlib.Nat.{mul-add-div, mul_assoc, add-mul, mul-le-mul_left, mul-le-mul, div-add-mod, mul-div_left, min-eq_left, min-eq_right}
 use native.Mathlib.Omega.{arith}
 use Rattle.numeric.specs.Share.{certain, share_of}

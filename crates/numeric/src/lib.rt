@@ -1,4 +1,6 @@
 // Arithmetic on frequencies and chances, without overflow.
+#![tactic(auto)]
+
 ghost use Rattle.std.specs.Prelude.{◌≡◌, ◌+◌, ◌-◌, ◌%◌, ◌≤◌, min};
 ghost use Rattle.numeric.specs.Share.{certain, share_of, split_of};
 

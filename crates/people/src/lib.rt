@@ -1,4 +1,6 @@
 // The chance of death at a place of people.
+#![tactic(auto)]
+
 ghost use Rattle.std.specs.Prelude.{◌≡◌, ◌+◌, ◌*◌, ◌/◌, min};
 ghost use Rattle.log2.specs.Logarithm.{logarithm};
 ghost use Rattle.probit.specs.Chance.{chance_of};

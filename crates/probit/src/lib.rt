@@ -1,4 +1,6 @@
 // The chance that a probit stands for (document 01, "From probit to chance").
+#![tactic(auto)]
+
 ghost use Rattle.std.specs.Prelude.{◌≡◌, ◌-◌, ◌≤◌, min, pos, ◌-ℤ◌, get_or};
 ghost use Rattle.probit.specs.Chance.{chance_of};
 ghost use Rattle.probit.specs.Rows.{rows};

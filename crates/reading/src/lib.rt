@@ -1,4 +1,6 @@
 // Where the reading of a study stands.
+#![tactic(auto)]
+
 mod entering;
 mod moving;
 

@@ -1,4 +1,6 @@
 // Reports of the totals, of one target, and of the domino list.
+#![tactic(auto)]
+
 mod domino;
 
 ghost use Rattle.std.specs.Prelude.{◌≡◌, min};

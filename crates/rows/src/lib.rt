@@ -1,4 +1,6 @@
 // What a study keeps of one target.
+#![tactic(auto)]
+
 ghost use Rattle.std.specs.Prelude.{◌≡◌, ◌+◌};
 ghost use Rattle.numeric.specs.Share.{share_of};
 ghost use Rattle.model.specs.Machine.{up_to, most32, most64, packed_facts, unpacked_facts, marked_facts};

@@ -1,4 +1,5 @@
 // The parts of a study that go by value, and the answers of its calls. The rules stand in the crate model, the code in the crate study.
+#![tactic(auto)]
 
 pub mod phase;
 pub mod record;

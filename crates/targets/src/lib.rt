@@ -1,4 +1,6 @@
 // Targets (the machine of the crate model).
+#![tactic(auto)]
+
 ghost use Rattle.std.specs.Prelude.{◌≡◌};
 ghost use Rattle.model.specs.Bounds.{most_targets};
 ghost use Rattle.model.specs.Verdict.{facts_at};

@@ -1,4 +1,6 @@
 // What the rules of death and damage speak of: targets, chances with their judgement, and how a fire's duration is counted.
+#![tactic(auto)]
+
 pub mod class;
 pub mod outcome;
 pub mod seconds;

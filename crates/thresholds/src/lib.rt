@@ -1,4 +1,6 @@
 // The table of 256 thresholds behind the logarithm (document 01, "The logarithm").
+#![tactic(auto)]
+
 ghost use Rattle.std.specs.Prelude.{◌≡◌, ◌<◌, get_or};
 ghost use Rattle.thresholds.specs.Thresholds.{thresholds};
 

@@ -1,4 +1,6 @@
 // Leaks, branchings and outcomes: the trees still to come (the machine of the crate model).
+#![tactic(auto)]
+
 ghost use Rattle.std.specs.Prelude.{◌≡◌, ◌+◌, ◌-◌};
 ghost use Rattle.numeric.specs.Share.{split_of};
 ghost use Rattle.model.specs.Machine.{core, open_phase, taken, one_record, one_leak, store, packed, above_of, top, leak_stack, branch_stack, leak_branch, branched_branch, outcome_branch, outcome_tally, frequency_of};

@@ -6,7 +6,6 @@ use native.Mathlib.Nat.{pow-suc}
 use native.Mathlib.Decide.{dec_le}
 use native.Mathlib.Omega.{arith}
 use lib.ListN.{get_or}
-use Rattle.numeric.specs.Choice.{if_lt, if_le}
 use Rattle.numeric.proofs.ChoiceLaws.{lt_case, ge_case, le_case, gt_case}
 use Rattle.volumes.specs.Root.{root_of}
 use Rattle.volumes.specs.Tables.{least_volumes, RightVolumes, further_to, halved, RootByHalves}

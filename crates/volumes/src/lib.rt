@@ -1,4 +1,6 @@
 // The root of a volume, by a table of least volumes (02, request P1).
+#![tactic(auto)]
+
 ghost use Rattle.std.specs.Prelude.{◌≡◌, ◌<◌, ◌≤◌, get_or};
 ghost use Rattle.volumes.specs.Root.{root_of};
 ghost use Rattle.volumes.specs.Tables.{least_volumes, further_to, halved};

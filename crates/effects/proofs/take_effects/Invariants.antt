@@ -1,0 +1,31 @@
+-- `effects::take_effects` meets its contract: each turn takes an effect more. Assumes nothing.
+use mathlib.Core.Path.{◌≡◌, refl, sym, ◌∙◌, ap}
+use mathlib.Core.Bool.{Bool, true, false}
+use mathlib.Core.List.{List}
+use Prim.Native.Nat.{ℕ, ◌+◌, ◌-◌, ◌/◌, ◌<◌, ◌≤◌, min}
+use native.Mathlib.Omega.{arith}
+use lib.ListN.{length, drop}
+use Rattle.terms.specs.declared.Clock.{Clock}
+use Rattle.state.specs.declared.Branch.{Branch}
+use Rattle.model.specs.Machine.{up_to, most32}
+use Rattle.vulnerability.specs.Effect.{effect_on}
+use Rattle.effects.specs.declared.Timing.{Timing}
+use Rattle.effects.specs.Effects.{Figures, figures, offset, after_effects, sound}
+use Rattle.effects.specs.Timings.{timing_of, alike_of}
+use Rattle.effects.proofs.Laws.{window, effects_none, effects_next, offset_none, offset_more, offset_most, step_sound, step_unsound, step_parts, step_left, sound_at_lem, more_missed}
+use Rattle.effects.proofs.LeadingLaws.{Leads, passes_more, leading_only}
+use Rattle.effects.proofs.TimingLaws.{length_most, alike_most, top_most}
+use borrow.Author.Rules.{rules}
+use Rattle.effects.proofs.take_effects.Given as goal
+
+-- whether the effect of a number is sound
+abbrev pub sound_at : Clock → ℕ → ℕ → ℕ → Branch → Figures → List ℕ → ℕ → Bool
+sound_at clock k w targets b g l i = sound k targets b.kind (after_effects (effect_on clock) b g w l i).next (drop (offset w i) l)
+
+abbrev pub invariant-loop-count : goal.invariant-loop-count
+invariant-loop-count l = (l.count ≤ l.top) × (l.missed ≤ l.count) × (l.at ≡ offset l.length l.count)
+    × (figures l.next (up_to most32 l.before l.missed) l.sums l.margins l.facts ≡ after_effects (effect_on l.timing.clock) l.b (figures l.b.next l.before l.initial.sums l.initial.margins l.initial.facts) l.length l.bytes l.count)
+    × ((i : ℕ) → i < l.count → sound_at l.timing.clock l.timing.kind l.length l.targets l.b (figures l.b.next l.before l.initial.sums l.initial.margins l.initial.facts) l.bytes i ≡ true)
+
+abbrev pub decreases-loop-count : goal.decreases-loop-count
+decreases-loop-count l = l.top - l.count

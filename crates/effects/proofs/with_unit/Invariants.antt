@@ -1,0 +1,26 @@
+-- `effects::with_unit` meets its contract: each turn finds one more. Assumes nothing.
+use mathlib.Core.Path.{◌≡◌, refl, sym, ◌∙◌}
+use mathlib.Core.Bool.{Bool, true, false}
+use mathlib.Core.List.{List}
+use Prim.Native.Nat.{ℕ, ◌-◌, ◌*◌, ◌<◌, ◌≤◌}
+use native.Mathlib.Omega.{arith}
+use lib.ListN.{drop}
+use Rattle.numeric.specs.Choice.{if_eq}
+use Rattle.numeric.specs.Fields.{field}
+use Rattle.numeric.proofs.ChoiceLaws.{eq_case, ne_case, lt_case, ge_case}
+use Rattle.effects.specs.Effects.{offset}
+use Rattle.effects.specs.Timings.{with_unit}
+use Rattle.effects.proofs.Laws.{window, offset_tens, unit_at}
+use Rattle.effects.proofs.LeadingLaws.{Leads, passes_more, leading_only}
+use borrow.Author.Rules.{rules}
+use Rattle.effects.proofs.with_unit.Given as goal
+
+-- whether the effect of a number has the unit
+abbrev pub has : ℕ → List ℕ → ℕ → Bool
+has u l i = if_eq (field (drop (offset 10 i) l) 9 1) u true false
+
+abbrev pub invariant-loop-n : goal.invariant-loop-n
+invariant-loop-n l = (l.n ≤ l.top) × ((i : ℕ) → i < l.n → has l.unit l.bytes i ≡ true)
+
+abbrev pub decreases-loop-n : goal.decreases-loop-n
+decreases-loop-n l = l.top - l.n

@@ -1,0 +1,11 @@
+-- `faults::only_first` meets its contract, case by case. Assumes nothing.
+use mathlib.Core.Path.{refl}
+use borrow.Author.Rules.{rules}
+use Rattle.numeric.proofs.ChoiceLaws.{eq_case, ne_case}
+use Rattle.faults.proofs.only_first.Goals as goal
+
+pub returns-then-scenarios-eq0 : goal.returns-then-scenarios-eq0
+returns-then-scenarios-eq0 c = eq_case _ _ _ _ (search rules) (refl)
+
+pub returns : goal.returns
+returns c = ne_case _ _ _ _ (search rules) (refl)

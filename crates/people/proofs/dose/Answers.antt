@@ -1,0 +1,6 @@
+-- `people::dose` meets its contract. Assumes nothing.
+use borrow.Author.Rules.{rules}
+use Rattle.people.proofs.dose.Goals as goal
+
+pub returns : goal.returns
+returns c = cc (c.l-heat.ensures.value, c.l-time.ensures.value)

@@ -1,0 +1,65 @@
+-- `reporting::domino::fill_marked` meets its contract: after t targets the marked ones below t are at the front of the list. Assumes nothing.
+use mathlib.Core.Path.{◌≡◌, sym, ap, ◌∙◌}
+use mathlib.Core.Bool.{Bool}
+use mathlib.Core.List.{List}
+use Prim.Native.Nat.{ℕ, ◌-◌, ◌≤◌}
+use native.Mathlib.Omega.{arith}
+use lib.ListN.{length, get_or, set}
+use borrow.Author.Rules.{rules}
+use Rattle.model.specs.Sums.{numbers_below}
+use Rattle.model.specs.Calls.{front}
+use Rattle.model.specs.Machine.{mark_of}
+use Rattle.reporting.proofs.MarkLaws.{below_none, count_in, count_out, front_none, front_in, front_out, front_length, room}
+use Rattle.reporting.proofs.domino.fill_marked.Goals as goal
+use Rattle.reporting.proofs.domino.fill_marked.Goals.{then-marked, else-marked}
+
+pub loop-t-init : goal.loop-t-init
+loop-t-init c = (omega arith, ap length (sym (below_none _)), sym (front_none _ _))
+
+pub offset_bounds-list-count : goal.offset_bounds-list-count
+offset_bounds-list-count c =
+    let v = c.loop-t in
+    let s = c.before.before.before.before.before.before in
+    let r = room (λ k. mark_of (get_or s.args.facts.now k 0)) s.args.list.now s.args.n v.t v.count v.list v.invariant.1 v.invariant.2 s.requires.n_in_bounds (sym c.marked.ensures ∙ c.if-marked.true) c.loop-t-test.true in
+    omega arith
+
+pub bounds-list-count : goal.bounds-list-count
+bounds-list-count c =
+    let v = c.loop-t in
+    let s = c.before.before.before.before.before.before in
+    let r = room (λ k. mark_of (get_or s.args.facts.now k 0)) s.args.list.now s.args.n v.t v.count v.list v.invariant.1 v.invariant.2 s.requires.n_in_bounds (sym c.marked.ensures ∙ c.if-marked.true) c.loop-t-test.true in
+    omega arith
+
+pub overflow_add-count : goal.overflow_add-count
+overflow_add-count c =
+    let v = c.loop-t in
+    let s = c.before.before.before.before.before.before in
+    let r = room (λ k. mark_of (get_or s.args.facts.now k 0)) s.args.list.now s.args.n v.t v.count v.list v.invariant.1 v.invariant.2 s.requires.n_in_bounds (sym c.marked.ensures ∙ c.if-marked.true) c.loop-t-test.true in
+    omega arith
+
+pub loop-t-preserved : goal.loop-t-preserved
+loop-t-preserved c =
+    let v = c.loop-t in
+    let s = c.before.before.before.before.before.before in
+    let g : ℕ → Bool = λ k. mark_of (get_or s.args.facts.now k 0) in
+    let e = c.marked.ensures in
+    let l = s.args.list.now in
+    elim c.if-marked.branch [
+      then-marked w ↦
+    let h = count_in g v.t (sym e ∙ w.if-marked.true) in
+    let r = room g l s.args.n v.t v.count v.list v.invariant.1 v.invariant.2 s.requires.n_in_bounds (sym e ∙ w.if-marked.true) c.loop-t-test.true in
+    (omega arith, omega arith, w.list-is ∙ ap (λ (x : List ℕ). set x v.count v.t) v.invariant.2 ∙ front_in g l v.t v.count v.invariant.1 (sym e ∙ w.if-marked.true) r.0)
+      | else-marked w ↦
+    let h = count_out g v.t (sym e ∙ w.if-marked.false) in
+    (omega arith, omega arith, w.list-is ∙ v.invariant.2 ∙ front_out g l v.t (sym e ∙ w.if-marked.false))
+    ]
+
+pub shape_of-list : goal.shape_of-list
+shape_of-list c =
+    let e : ◌≡◌ {A = ℕ} c.loop-t.t c.args.n = omega arith in
+    ap length c.loop-t.invariant.2 ∙ front_length _ _ _ (rw e c.requires.n_in_bounds)
+
+pub returns : goal.returns
+returns c =
+    let e : ◌≡◌ {A = ℕ} c.loop-t.t c.args.n = omega arith in
+    rw (← e) c.loop-t.invariant.2
