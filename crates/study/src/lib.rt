@@ -1,5 +1,6 @@
 // The study: read in pieces, and reported once it is closed (document 01).
 #![tactic(auto)]
+
 mod bounds;
 mod following;
 mod into;

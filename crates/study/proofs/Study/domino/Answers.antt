@@ -1,0 +1,10 @@
+-- `study::Study::domino` meets its contract: a study's own lists stand beside the core and the facts. Assumes nothing.
+use borrow.Author.Rules.{rules}
+use Rattle.study.proofs.RunLaws.{domino_called}
+use Rattle.study.proofs.Study.domino.Goals as goal
+
+pub returns : goal.returns
+returns c =
+    let s = c.args.self in
+    let e = c.report_domino.ensures in
+    domino_called (e.0 s.pending s.stack s.sums s.margins) (e.1 s.pending s.stack s.sums s.margins)

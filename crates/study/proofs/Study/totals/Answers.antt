@@ -1,0 +1,7 @@
+-- `study::Study::totals` meets its contract. Assumes nothing.
+use borrow.Author.Rules.{rules}
+use Rattle.study.proofs.RunLaws.{totals_called}
+use Rattle.study.proofs.Study.totals.Goals as goal
+
+pub returns : goal.returns
+returns c = totals_called c.report_totals.ensures

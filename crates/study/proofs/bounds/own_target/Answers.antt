@@ -1,0 +1,6 @@
+-- `study::bounds::own_target` meets its contract. Assumes nothing.
+use borrow.Author.Rules.{rules}
+use Rattle.study.proofs.bounds.own_target.Goals as goal
+
+pub returns : goal.returns
+returns c = rw (c.half_at_1-number.ensures, c.facts-f.ensures) at c.target_fault.ensures

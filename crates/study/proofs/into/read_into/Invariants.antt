@@ -1,0 +1,19 @@
+-- `study::into::read_into` meets its contract: after i bytes the arrays are the machine after the first i bytes. Assumes nothing.
+use mathlib.Core.Path.{◌≡◌, sym, ◌∙◌, ap}
+use Prim.Native.Nat.{ℕ, ◌-◌, ◌≤◌}
+use native.Mathlib.Omega.{arith}
+use lib.ListN.{length, take, drop}
+use borrow.Author.Rules.{rules}
+use Rattle.state.specs.declared.Core.{Core}
+use Rattle.model.specs.Machine.{state, read_all}
+use Rattle.counting.specs.Kinds.{with_kinds}
+use Rattle.study.proofs.LoopLaws.{read_none, read_next, read_whole}
+use Rattle.study.proofs.SpanLaws.{stays_wide}
+use Rattle.study.proofs.into.read_into.Given as goal
+
+abbrev pub invariant-loop-i : goal.invariant-loop-i
+invariant-loop-i l = (l.i ≤ length l.bytes) × (length l.pending ≡ 16)
+    × (state (with_kinds l.core l.kinds) l.pending l.stack l.sums l.margins l.facts ≡ read_all (state l.initial.core l.initial.pending l.initial.stack l.initial.sums l.initial.margins l.initial.facts) (take l.i l.bytes))
+
+abbrev pub decreases-loop-i : goal.decreases-loop-i
+decreases-loop-i l = length l.bytes - l.i

@@ -1,0 +1,25 @@
+-- `study::records::read_closing` meets its contract, case by case. Assumes nothing.
+use mathlib.Core.Path.{refl}
+use Rattle.model.specs.Faults.{own_fault}
+use Rattle.model.specs.Machine.{accepted, with_reading}
+use Rattle.study.proofs.RecordLaws.{place_refused, own_refused, without_fault}
+use borrow.Author.Rules.{rules}
+use Rattle.study.proofs.records.read_closing.Goals as goal
+
+pub returns-then-misplaced-ne0 : goal.returns-then-misplaced-ne0
+unfolding with_reading
+returns-then-misplaced-ne0 c q k s m f = rw c.requires (place_refused _ _ _ c.place_fault-misplaced.ensures c.if-misplaced-ne0.true (rw c.refused.ensures refl))
+
+pub returns-then-own-ne0 : goal.returns-then-own-ne0
+unfolding own_fault with_reading
+returns-then-own-ne0 c q k s m f =
+    let p = c.before.before.before.before in
+    rw p.requires
+    (own_refused _ _ _ _ p.place_fault-misplaced.ensures c.if-misplaced-ne0.false c.own_closing-own.ensures c.if-own-ne0.true (rw c.refused-then-own-ne0.ensures refl))
+
+pub returns : goal.returns
+unfolding accepted own_fault
+returns c q k s m f =
+    let p = c.before.before.before.before in
+    rw p.requires
+    (without_fault _ _ _ _ p.place_fault-misplaced.ensures c.if-misplaced-ne0.false c.own_closing-own.ensures c.if-own-ne0.false (rw c.core_closing.ensures refl))
