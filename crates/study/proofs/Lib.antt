@@ -6,4 +6,3 @@ pub mod RecordLaws
 pub mod FollowLaws
 pub mod KindTotalLaws
 pub mod MoveLaws
-pub mod Fields

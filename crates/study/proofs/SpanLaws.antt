@@ -201,6 +201,13 @@ records_more l i n s r =
     go z (inl e) = let g : n ≡ length_of l = rw z at e in inl (omega arith)
     go z (inr e) = let g : length_of l + 16 ≤ length l = rw z at e in inr g
 
+-- what a turn reads from its place on, and the records up to its end
+pub read_in : (l : List ℕ) (i n : ℕ) → Records (rest l i) n → Records (drop i l) n
+read_in l i n h = rw (rest_is l i) at h
+
+pub read_to : (l : List ℕ) (i n : ℕ) → Standing l i → Records (rest l i) n → Records l (i + n)
+read_to l i n s h = records_more l i n s (read_in l i n h)
+
 pub more_read : (s t r : State) (l : List ℕ) (i n : ℕ) → Standing l i → Reached s t l i → Records (drop i l) n → r ≡ after_first t (drop i l) n → r ≡ after_first s l (i + n)
 more_read s t r l i n z h w e =
     let j : ℕ = i + length_of (drop i l) in

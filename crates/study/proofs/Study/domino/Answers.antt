@@ -7,4 +7,4 @@ pub returns : goal.returns
 returns c =
     let s = c.args.self in
     let e = c.report_domino.ensures in
-    domino_called (e.0 s.pending s.stack s.sums s.margins) (e.1 s.pending s.stack s.sums s.margins)
+    domino_called (e.value s.pending s.stack s.sums s.margins) (e.list_after s.pending s.stack s.sums s.margins)

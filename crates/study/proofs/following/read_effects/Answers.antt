@@ -1,5 +1,6 @@
 -- `study::following::read_effects` meets its contract: the first effect is refused, or it is taken with those that follow it. Assumes nothing.
 use mathlib.Core.Path.{◌≡◌, refl, sym, ◌∙◌, ap}
+use mathlib.Core.Bool.{Bool}
 use mathlib.Core.List.{List, []}
 use Prim.Native.Nat.{ℕ, ◌+◌, ◌-◌, ◌/◌, ◌<◌, ◌≤◌, min}
 use native.Mathlib.Omega.{arith}
@@ -15,7 +16,7 @@ use Rattle.model.specs.Machine.{state, with_reading}
 use Rattle.counting.specs.Kinds.{with_kinds}
 use Rattle.decoding.specs.Effects.{unit_of, effect_of}
 use Rattle.decoding.proofs.DecodeLaws.{decode_effect, effect_target, effect_intensity, effect_duration, effect_unit}
-use Rattle.effects.specs.Effects.{Figures, offset}
+use Rattle.effects.specs.Effects.{Figures, offset, leading}
 use Rattle.effects.specs.Timings.{timing_of, alike_of}
 use Rattle.effects.proofs.Laws.{effects_none, offset_most}
 use Rattle.effects.proofs.LeadingLaws.{Leads, leading_is}
@@ -34,11 +35,8 @@ abbrev reach : ℕ → List ℕ → ℕ
 reach most l = min most ((length l - 6) / 10)
 
 -- how many are
-taken_at : (c : goal.After-take_effects-run)
-    → let m = c.before.before.before.before in
-    let g = m.args in
-    Leads (sound_at g.c g.sums.now g.margins.now g.facts.now g.bytes.now) (alike_of g.bytes.now (reach m.most_effects-most.result g.bytes.now)) c.take_effects-run.result.count
-taken_at c = rw c.take_effects-run.ensures.count_value.0 (leading_is _ _)
+taken_at : (f : ℕ → Bool) (m n : ℕ) → n ≡ leading f m → Leads f m n
+taken_at f m n e = rw e (leading_is f m)
 
 -- at most as many as there is room for
 count_most : (l : List ℕ) (n most : ℕ) → n ≤ alike_of l (reach most l) → n ≤ reach most l
@@ -51,15 +49,13 @@ bytes_most l n most a h e = omega (arith, count_most l n most h, e, offset_most 
 pub returns-then-misplaced-ne0 : goal.returns-then-misplaced-ne0
 unfolding with_reading Other
 returns-then-misplaced-ne0 c =
-    let f = c.before.before in
-    let s = f.before.before.before.before in
-    let l = s.args.bytes.now in
-    let n = s.requires.have_value.0 in record {
-      records = records_alone l _ n s.requires.in_bounds.0;
+    let l = c.args.bytes.now in
+    let n = c.requires.have_value.0 in record {
+      records = records_alone l _ n c.requires.in_bounds.0;
       by_index = λ x q k.
           read_alone _ _ q k _ _ _ l _ n
-          (other_read x s.args.c c.refused.result q k s.args.sums.now s.args.margins.now s.args.facts.now k s.args.sums.now s.args.margins.now s.args.facts.now (decode l) (effect_rec (effect_of l)) (decode_effect l s.requires.in_bounds.1) tt
-          (rw (decode_effect l s.requires.in_bounds.1) (place_refused _ _ _ f.place_fault-misplaced.ensures c.if-misplaced-ne0.true (rw c.refused.ensures refl))));
+          (other_read x c.args.c c.refused.result q k c.args.sums.now c.args.margins.now c.args.facts.now k c.args.sums.now c.args.margins.now c.args.facts.now (decode l) (effect_rec (effect_of l)) (decode_effect l c.requires.in_bounds.1) tt
+          (rw (decode_effect l c.requires.in_bounds.1) (place_refused _ _ _ c.place_fault-misplaced.ensures c.if-misplaced-ne0.true (rw c.refused.ensures refl))));
     }
 
 -- the fault of the first effect
@@ -71,71 +67,60 @@ pub returns-then-run-eq0 : goal.returns-then-run-eq0
 unfolding own_fault with_reading Other
 returns-then-run-eq0 c =
     let none = c.if-run-eq0.true in
-    let t = c.before.before.before.before in
-    let m = t.before.before.before.before in
-    let i = m.before.before.before.before in
-    let f = i.before in
-    let s = f.before.before.before.before in
-    let g = s.args in
+    let g = c.args in
     let l = g.bytes.now in
-    let n = s.requires.have_value.0 in
+    let n = c.requires.have_value.0 in
+    let taken : Leads (sound_at g.c g.sums.now g.margins.now g.facts.now l) (alike_of l (reach c.most_effects-most.result l)) c.take_effects-run.result.count = taken_at _ _ _ c.take_effects-run.ensures.count_value.0 in
     let begun : Figures = begin g.c g.sums.now g.margins.now g.facts.now l in
-    let same = (rw none at t.take_effects-run.ensures.facts_after) ∙ sym (effects_none _ g.c.branch begun _ l) in
+    let same = (rw none at c.take_effects-run.ensures.facts_after) ∙ sym (effects_none _ g.c.branch begun _ l) in
     let own = c.own_effect-own.ensures in record {
-      records = records_alone l _ n s.requires.in_bounds.0;
+      records = records_alone l _ n c.requires.in_bounds.0;
       by_index = λ x q k.
           read_alone _ _ q k _ _ _ l _ n
-          (other_read x g.c c.refused-then-run-eq0.result q k g.sums.now g.margins.now g.facts.now k _ _ _ (decode l) (effect_rec (effect_of l)) (decode_effect l s.requires.in_bounds.1) tt
-          (rw (ap (λ (y : Figures). y.sums) same, ap (λ (y : Figures). y.margins) same, ap (λ (y : Figures). y.facts) same, decode_effect l s.requires.in_bounds.1)
-          (own_refused _ _ _ _ f.place_fault-misplaced.ensures i.if-misplaced-ne0.false (own_is g.c l _ s.requires.in_bounds.1 own)
-          (λ z. unsound_first g.c g.sums.now g.margins.now g.facts.now l _ s.requires.in_bounds.1 (omega (arith, m.most_effects-most.ensures.result_nonzero, s.requires.in_bounds.0)) (rw none at (taken_at t)) (sym own ∙ z)) (rw c.refused-then-run-eq0.ensures refl))));
+          (other_read x g.c c.refused-then-run-eq0.result q k g.sums.now g.margins.now g.facts.now k _ _ _ (decode l) (effect_rec (effect_of l)) (decode_effect l c.requires.in_bounds.1) tt
+          (rw (ap (λ (y : Figures). y.sums) same, ap (λ (y : Figures). y.margins) same, ap (λ (y : Figures). y.facts) same, decode_effect l c.requires.in_bounds.1)
+          (own_refused _ _ _ _ c.place_fault-misplaced.ensures c.if-misplaced-ne0.false (own_is g.c l _ c.requires.in_bounds.1 own)
+          (λ z. unsound_first g.c g.sums.now g.margins.now g.facts.now l _ c.requires.in_bounds.1 (omega (arith, c.most_effects-most.ensures.result_nonzero, c.requires.in_bounds.0)) (rw none at taken) (sym own ∙ z)) (rw c.refused-then-run-eq0.ensures refl))));
     }
 
 pub core_after-after-requires : goal.core_after-after-requires
 core_after-after-requires c =
-    let t = c.before.before in
-    let m = t.before.before.before.before in
-    let i = m.before.before.before.before in
-    let s = i.before.before.before.before.before in
-    let l = s.args.bytes.now in
-    let n = count_most l _ _ (taken_at t).within in
-    let a = bytes_most l _ _ _ (taken_at t).within t.take_effects-run.ensures.count_value.1 in
-    let bound : (1 < t.take_effects-run.result.count → _) = λ w. m.most_effects-most.ensures.upper_bound (omega (arith, w, n)) in record {
-      at_bound = omega (arith, a, s.requires.have_value.2);
-      count_le_left = within_bounds _ _ (sym i.if-misplaced-ne0.false ∙ i.place_fault-misplaced.ensures) (λ w. (omega (arith, (bound w).0, n), omega (arith, (bound w).1, n)));
+    let g = c.args in
+    let l = g.bytes.now in
+    let taken : Leads (sound_at g.c g.sums.now g.margins.now g.facts.now l) (alike_of l (reach c.most_effects-most.result l)) c.take_effects-run.result.count = taken_at _ _ _ c.take_effects-run.ensures.count_value.0 in
+    let n = count_most l _ _ taken.within in
+    let a = bytes_most l _ _ _ taken.within c.take_effects-run.ensures.count_value.1 in
+    let bound : (1 < c.take_effects-run.result.count → _) = λ w. c.most_effects-most.ensures.upper_bound (omega (arith, w, n)) in record {
+      at_bound = omega (arith, a, c.requires.have_value.2);
+      count_le_left = within_bounds _ _ (sym c.if-misplaced-ne0.false ∙ c.place_fault-misplaced.ensures) (λ w. (omega (arith, (bound w).0, n), omega (arith, (bound w).1, n)));
     }
 
 pub returns : goal.returns
 unfolding place_fault
 returns c =
-    let i2 = c.before in
-    let t = i2.before.before in
-    let m = t.before.before.before.before in
-    let i = m.before.before.before.before in
-    let f = i.before in
-    let s = f.before.before.before.before in
-    let g = s.args in
+    let g = c.args in
     let l = g.bytes.now in
-    let e = taken_at t in
-    let n = t.take_effects-run.result.count in
+    let e : Leads (sound_at g.c g.sums.now g.margins.now g.facts.now l) (alike_of l (reach c.most_effects-most.result l)) c.take_effects-run.result.count = taken_at _ _ _ c.take_effects-run.ensures.count_value.0 in
+    let n = c.take_effects-run.result.count in
     let r = count_most l _ _ e.within in
-    let some = i2.if-run-eq0.false in
+    let some = c.if-run-eq0.false in
     let free : (x : List ℕ) → Free (with_kinds g.c x) g.sums.now g.margins.now g.facts.now l n =
     λ x. record {
-      placed = sym i.if-misplaced-ne0.false ∙ f.place_fault-misplaced.ensures;
-      entered = s.requires.have_value.1;
+      placed = sym c.if-misplaced-ne0.false ∙ c.place_fault-misplaced.ensures;
+      entered = c.requires.have_value.1;
       room = omega (arith, some, r);
-      counts = s.requires.have_value.2;
-      more = λ w. let b = m.most_effects-most.ensures.upper_bound (omega (arith, w, r)) in (omega (arith, b.0, r), omega (arith, b.1, r));
-      few = reach m.most_effects-most.result l;
+      counts = c.requires.have_value.2;
+      more = λ w. let b = c.most_effects-most.ensures.upper_bound (omega (arith, w, r)) in (omega (arith, b.0, r), omega (arith, b.1, r));
+      few = reach c.most_effects-most.result l;
       alike = e.within;
       sounds = e.passes;
-      first = s.requires.in_bounds.1;
+      first = c.requires.in_bounds.1;
     } in
     let last : n ≡ n - 1 + 1 = omega (arith, some) in
-    rw t.take_effects-run.ensures.count_value.1 (
-      (effects_read (with_kinds g.c []) g.sums.now g.margins.now g.facts.now l (n - 1) n last (free [])).0,
-      λ x q k.
-          with_kinds_lem x g.c n _ t.take_effects-run.result.next t.take_effects-run.result.unjudged (rw t.take_effects-run.ensures.count_value.1 at c.core_after-after.ensures)
-          (ap (λ (y : Figures). state (core_after (with_kinds g.c x) n (offset (timing_of l).length n) y.next y.unjudged) (replicate 16 0) k y.sums y.margins y.facts) t.take_effects-run.ensures.facts_after ∙ (effects_read (with_kinds g.c x) g.sums.now g.margins.now g.facts.now l (n - 1) n last (free x)).1 q k),
-    )
+    rw c.take_effects-run.ensures.count_value.1
+    record {
+      records = (effects_read (with_kinds g.c []) g.sums.now g.margins.now g.facts.now l (n - 1) n last (free [])).0;
+      by_index = λ x q k.
+          with_kinds_lem x g.c n _ c.take_effects-run.result.next c.take_effects-run.result.unjudged (rw c.take_effects-run.ensures.count_value.1 at c.core_after-after.ensures)
+          (ap (λ (y : Figures). state (core_after (with_kinds g.c x) n (offset (timing_of l).length n) y.next y.unjudged) (replicate 16 0) k y.sums y.margins y.facts) c.take_effects-run.ensures.facts_after ∙ (effects_read (with_kinds g.c x) g.sums.now g.margins.now g.facts.now l (n - 1) n last (free x)).1 q k);
+    }

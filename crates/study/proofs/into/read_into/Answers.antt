@@ -26,9 +26,9 @@ loop-i-preserved c =
     let l = c.args.bytes.now in
     let r = c.read_on-run in
     let n = r.result.at in (
-      r.ensures.0.1,
-      stays_wide _ _ (take (n - v.i) (drop v.i l)) r.ensures.1 v.invariant.1,
-      read_next _ _ _ l v.i n (omega (arith, r.ensures.0)) v.invariant.2 r.ensures.1,
+      r.ensures.from_lt_at.1,
+      stays_wide _ _ (take (n - v.i) (drop v.i l)) r.ensures.facts_after v.invariant.1,
+      read_next _ _ _ l v.i n (omega (arith, r.ensures.from_lt_at)) v.invariant.2 r.ensures.facts_after,
     )
 
 pub returns : goal.returns

@@ -1,6 +1,7 @@
 -- `study::records::read_other` meets its contract, kind by kind. Assumes nothing.
 use mathlib.Core.Path.{◌≡◌, refl, sym, ◌∙◌}
-use mathlib.Core.Bool.{true}
+use mathlib.Core.Bool.{true, false}
+use mathlib.Core.List.{List}
 use Prim.Native.Nat.{ℕ}
 use lib.ListN.{get_or}
 use Rattle.model.specs.Format.{closing_rec}
@@ -41,23 +42,20 @@ returns-then-kind-eq-OPENING c =
     }
 
 -- what is left is a closing
-closing_at : (c : goal.Else-kind-eq-OPENING) → let p = c.args.p.now in decode p ≡ closing_rec (field p 1 4) (field p 5 8)
+closing_at : (p : List ℕ) (kind : ℕ) → of_scenario (get_or p 0 0) ≡ false → kind ≡ get_or p 0 0 → (kind ≡ 2 → ⊥) → (kind ≡ 1 → ⊥) → decode p ≡ closing_rec (field p 1 4) (field p 5 8)
 unfolding of_scenario if_eq
-closing_at c =
-    let k = c.before.before in
-    let e = k.kind-kind.ensures in
-    let p = k.args.p.now in
-    let no : (n : ℕ) → of_scenario n ≡ true → get_or p 0 0 ≡ n → ⊥ = λ n. other_kinds _ n k.requires in
-    decode_closing p (no 10 refl) (no 8 refl) (no 6 refl) (no 5 refl) (no 4 refl) (no 3 refl) (λ z. c.if-kind-eq-TARGET.false (e ∙ z)) (λ z. c.if-kind-eq-OPENING.false (e ∙ z))
+closing_at p kind h e target opening =
+    let no : (n : ℕ) → of_scenario n ≡ true → get_or p 0 0 ≡ n → ⊥ = λ n. other_kinds _ n h in
+    decode_closing p (no 10 refl) (no 8 refl) (no 6 refl) (no 5 refl) (no 4 refl) (no 3 refl) (λ z. target (e ∙ z)) (λ z. opening (e ∙ z))
 
 pub read_closing-after-requires : goal.read_closing-after-requires
-read_closing-after-requires c = closing_at c
+read_closing-after-requires c = closing_at c.args.p.now _ c.requires c.kind-kind.ensures c.if-kind-eq-TARGET.false c.if-kind-eq-OPENING.false
 
 pub returns : goal.returns
 unfolding Other
 returns c =
     let k = c.before.before.before.before in
-    let d = closing_at c.before.before in
+    let d = closing_at c.args.p.now _ c.requires c.kind-kind.ensures c.if-kind-eq-TARGET.false c.if-kind-eq-OPENING.false in
     record {
       at_value = c.ended-2.ensures.1 ∙ length_at k.kind-kind.ensures;
       facts_after = λ l q t s m. rw c.ended-2.ensures.0 (other_read l _ _ q t s m _ t s m _ _ _ d tt (c.read_closing-after.ensures q t s m _));

@@ -9,22 +9,10 @@ use lib.Dec.{T}
 use Rattle.model.specs.Machine.{state, core, reading}
 use Rattle.counting.specs.Kinds.{with_kinds}
 use Rattle.study.specs.Spans.{of_scenario, length_of, Next, after_first, Records}
-use Rattle.study.proofs.SpanLaws.{Standing, Reached, standing_start, reached_start, rest_is, scenario_known, more_read, records_more, standing_next, reached_next}
+use Rattle.study.proofs.SpanLaws.{Standing, Reached, standing_start, reached_start, rest_is, scenario_known, more_read, read_in, read_to, standing_next, reached_next}
 use Rattle.study.proofs.MoveLaws.{at_first, counted}
 use borrow.Author.Rules.{rules}
 use Rattle.study.proofs.scenarios.read_from_first.Goals as goal
-
--- where a turn begins
-standing-at : (c : goal.In-loop-more) → Standing c.args.bytes.now c.loop-more.at
-standing-at c = (c.loop-more.invariant.0 c.loop-more-test.true).0
-
--- what a turn reads
-one_at : (c : goal.After-read_one-run) → Records (drop c.loop-more.at c.args.bytes.now) c.read_one-run.result.at
-one_at c = rw (rest_is c.args.bytes.now c.loop-more.at) at c.read_one-run.ensures.records
-
--- the records read up to the end of a turn
-records-at : (c : goal.After-read_one-run) → Records c.args.bytes.now (c.loop-more.at + c.read_one-run.result.at)
-records-at c = records_more _ _ _ (standing-at c.before.before.before.before.before.before.before) (one_at c)
 
 pub loop-more-init : goal.loop-more-init
 loop-more-init c =
@@ -43,53 +31,58 @@ loop-more-init c =
     )
 
 pub slice_bounds-read_one-count : goal.slice_bounds-read_one-count
-slice_bounds-read_one-count c = omega (arith, (standing-at c).room)
+slice_bounds-read_one-count c = omega (arith, (c.loop-more.invariant.0 c.loop-more-test.true).0.room)
 
 pub slice_bounds-read_one-start : goal.slice_bounds-read_one-start
-slice_bounds-read_one-start c = omega (arith, (standing-at c).room)
+slice_bounds-read_one-start c = omega (arith, (c.loop-more.invariant.0 c.loop-more-test.true).0.room)
 
 pub read_one-run-requires : goal.read_one-run-requires
 read_one-run-requires c =
-    let i = c.before.before.before.before.before.before in
-    let v = i.loop-more in
-    let w = v.invariant.0 i.loop-more-test.true in
-    let s = i.before.before.before.before.before.before.before in
-    let l = s.args.bytes.now in
-    (rw (rest_is l v.at) (omega (arith, length-drop v.at l, w.0.room)), rw (rest_is l v.at) w.1, rw (rest_is l v.at) (omega (arith, length-drop v.at l, w.0.room, s.well_formed)))
+    let v = c.loop-more in
+    let w = v.invariant.0 c.loop-more-test.true in
+    let l = c.args.bytes.now in
+    (rw (rest_is l v.at) (omega (arith, length-drop v.at l, w.0.room)), rw (rest_is l v.at) w.1, rw (rest_is l v.at) (omega (arith, length-drop v.at l, w.0.room, c.well_formed)))
 
 pub overflow_add-at : goal.overflow_add-at
-overflow_add-at c = omega (arith, (records-at c.before.before.before.before.before.before).there, c.well_formed)
+overflow_add-at c =
+    let v = c.loop-more in
+    let l = c.args.bytes.now in
+    omega (arith, (read_to l v.at _ (v.invariant.0 c.loop-more-test.true).0 c.read_one-run.ensures.records).there, c.well_formed)
 
 pub slice_bounds-scenario_here-count : goal.slice_bounds-scenario_here-count
-slice_bounds-scenario_here-count c = (records-at c.before.before.before.before.before.before).there
+slice_bounds-scenario_here-count c =
+    let v = c.loop-more in
+    let l = c.args.bytes.now in
+    (read_to l v.at _ (v.invariant.0 c.loop-more-test.true).0 c.read_one-run.ensures.records).there
 
 pub slice_bounds-scenario_here-start : goal.slice_bounds-scenario_here-start
-slice_bounds-scenario_here-start c = omega (arith, (records-at c.before.before.before.before.before.before).there)
+slice_bounds-scenario_here-start c =
+    let v = c.loop-more in
+    let l = c.args.bytes.now in
+    omega (arith, (read_to l v.at _ (v.invariant.0 c.loop-more-test.true).0 c.read_one-run.ensures.records).there)
 
 pub loop-more-smaller : goal.loop-more-smaller
 loop-more-smaller c =
-    let t = c.before.before.before.before.before.before.before.before in
-    omega (arith, (standing-at t.before.before.before.before.before.before.before).room, (one_at t).first)
+    let v = c.loop-more in
+    let l = c.args.bytes.now in
+    omega (arith, (v.invariant.0 c.loop-more-test.true).0.room, (read_in l v.at _ c.read_one-run.ensures.records).first)
 
 pub loop-more-preserved : goal.loop-more-preserved
 loop-more-preserved c =
-    let t = c.before.before.before.before.before.before.before.before in
-    let i = t.before.before.before.before.before.before.before in
-    let v = i.loop-more in
-    let s = i.before.before.before.before.before.before.before in
-    let g = s.args in
-    let l = g.bytes.now in
-    let w = v.invariant.0 i.loop-more-test.true in
-    let r = records-at t in
-    let at = v.at + t.read_one-run.result.at in
-    let a : ((q : List ℕ) → _) = λ q. more_read _ _ _ l v.at _ w.0 (w.2 q) (one_at t) (rw (rest_is l v.at) at (t.read_one-run.ensures.by_index q)) in (
+    let v = c.loop-more in
+    let l = c.args.bytes.now in
+    let w = v.invariant.0 c.loop-more-test.true in
+    let some = read_in l v.at _ c.read_one-run.ensures.records in
+    let r = read_to l v.at _ w.0 c.read_one-run.ensures.records in
+    let at = v.at + c.read_one-run.result.at in
+    let a : ((q : List ℕ) → _) = λ q. more_read _ _ _ l v.at _ w.0 (w.2 q) some (rw (rest_is l v.at) at (c.read_one-run.ensures.by_index q)) in (
       λ e.
           let n = rw (rest_is l at) at (c.scenario_here-more.ensures e) in
-          let p = counted l at r (omega (arith, s.well_formed)) _ _ _ [] _ _ _ _ _ (a []) n.0 in
+          let p = counted l at r (omega (arith, c.well_formed)) _ _ _ [] _ _ _ _ _ (a []) n.0 in
           let d = length-drop at l in
-          let x : Next t.read_one-run.result.core.reading (drop at l) =
+          let x : Next c.read_one-run.result.core.reading (drop at l) =
           record {
-            between = record { reads = n.0; none = n.1; room = omega (arith, p, d, n.2, r.there, s.well_formed) };
+            between = record { reads = n.0; none = n.1; room = omega (arith, p, d, n.2, r.there, c.well_formed) };
             known = scenario_known _ n.3;
             room = n.2;
           } in (
@@ -101,4 +94,6 @@ loop-more-preserved c =
     )
 
 pub returns : goal.returns
-returns c = c.loop-more.invariant.1 c.loop-more-test.false
+returns c =
+    let r = c.loop-more.invariant.1 c.loop-more-test.false in
+    record { records = r.0; by_index = r.1 }

@@ -40,29 +40,15 @@ alone k b y at n c d l x t t' r room h w e o z f = (
 )
 
 -- the first sixteen bytes have the kind and the record
-in-first : (c : goal.After-kind-kind) → let l = c.args.p.now in (get_or (take 16 l) 0 0 ≡ get_or l 0 0) × (decode (take 16 l) ≡ decode l)
-in-first c =
-    let s = c.before.before.before in
-    in_sixteen s.args.p.now s.requires.0 (scenario_known _ s.requires.1)
+in_first : (l : List ℕ) → 16 ≤ length l → of_scenario (get_or l 0 0) ≡ true → (get_or (take 16 l) 0 0 ≡ get_or l 0 0) × (decode (take 16 l) ≡ decode l)
+in_first l room h = in_sixteen l room (scenario_known _ h)
 
 -- the kinds that the tests find
-branching-at : (c : goal.Then-kind-eq-BRANCHING) → get_or (take 16 c.args.p.now) 0 0 ≡ 4
-branching-at c = sym c.kind-kind.ensures ∙ c.if-kind-eq-BRANCHING.true
-
 above_effects : (k : ℕ) → of_scenario k ≡ true → 8 < k → k ≡ 10
 above_effects = scenario_cases (λ k. 8 < k → k ≡ 10) (λ h. omega arith) (λ h. omega arith) (λ h. omega arith) (λ h. omega arith) (λ h. omega arith) (λ h. refl)
 
-curve-at : (c : goal.Then-kind-gt-TIMED_EFFECT) → get_or (take 16 c.args.p.now) 0 0 ≡ 10
-curve-at c =
-    let k = c.before.before in
-    let e = k.kind-kind.ensures in
-    above_effects _ (ap of_scenario (in-first k).0 ∙ k.requires.1) (omega (arith, e, c.if-kind-gt-TIMED_EFFECT.true))
-
-outcome-at : (c : goal.Then-kind-eq-OUTCOME) → get_or (take 16 c.args.p.now) 0 0 ≡ 5
-outcome-at c = sym c.kind-kind.ensures ∙ c.if-kind-eq-OUTCOME.true
-
-leak-at : (c : goal.Then-kind-eq-LEAK) → get_or (take 16 c.args.p.now) 0 0 ≡ 3
-leak-at c = sym c.kind-kind.ensures ∙ c.if-kind-eq-LEAK.true
+curve_at : (l : List ℕ) (k : ℕ) → 16 ≤ length l → of_scenario (get_or l 0 0) ≡ true → k ≡ get_or (take 16 l) 0 0 → 8 < k → get_or (take 16 l) 0 0 ≡ 10
+curve_at l k room h e above = above_effects _ (ap of_scenario (in_first l room h).0 ∙ h) (omega (arith, e, above))
 
 -- and the two that they leave
 effect_kinds : (k : ℕ) → of_scenario k ≡ true → (k ≡ 4 → ⊥) → k ≤ 8 → (k ≡ 5 → ⊥) → (k ≡ 3 → ⊥) → (k ≡ 6) ⊎ (k ≡ 8)
@@ -70,77 +56,68 @@ effect_kinds =
     scenario_cases (λ k. (k ≡ 4 → ⊥) → k ≤ 8 → (k ≡ 5 → ⊥) → (k ≡ 3 → ⊥) → (k ≡ 6) ⊎ (k ≡ 8))
     (λ a b c d. absurd (d refl)) (λ a b c d. absurd (a refl)) (λ a b c d. absurd (c refl)) (λ a b c d. inl refl) (λ a b c d. inr refl) (λ a b c d. absurd (omega arith))
 
-effect-at : (c : goal.Else-kind-eq-LEAK) → IsEffect c.args.p.now
-effect-at c =
-    let k = c.before.before.before.before in
-    let s = k.before.before.before in
-    let e = k.kind-kind.ensures ∙ (in-first k).0 in
-    effect_kinds _ s.requires.1 (λ z. c.if-kind-eq-BRANCHING.false (e ∙ z)) (omega (arith, e, c.if-kind-gt-TIMED_EFFECT.false)) (λ z. c.if-kind-eq-OUTCOME.false (e ∙ z)) (λ z. c.if-kind-eq-LEAK.false (e ∙ z))
+effect_at : (l : List ℕ) (k : ℕ) → 16 ≤ length l → of_scenario (get_or l 0 0) ≡ true → k ≡ get_or (take 16 l) 0 0 → (k ≡ 4 → ⊥) → k ≤ 8 → (k ≡ 5 → ⊥) → (k ≡ 3 → ⊥) → IsEffect l
+effect_at l k room h q a b c d =
+    let e = q ∙ (in_first l room h).0 in
+    effect_kinds _ h (λ z. a (e ∙ z)) (omega (arith, e, b)) (λ z. c (e ∙ z)) (λ z. d (e ∙ z))
 
 pub read_branching-r-requires : goal.read_branching-r-requires
-read_branching-r-requires c = decode_branching _ (branching-at c.before.before)
+read_branching-r-requires c = decode_branching _ (sym c.kind-kind.ensures ∙ c.if-kind-eq-BRANCHING.true)
 
 pub returns-then-kind-eq-BRANCHING : goal.returns-then-kind-eq-BRANCHING
 unfolding body_length if_eq Other
 returns-then-kind-eq-BRANCHING c =
-    let e = c.before.before in
-    let w = in-first e.before.before in
-    let s = e.before.before.before.before.before in
-    let g = s.args in
-    let k = branching-at e.before in
-    let z = alone g.k g.b g.y g.at 5 _ _ g.p.now g.kinds.now _ _ _ s.requires.0 (length_at (sym k ∙ w.0)) w.1 (decode_branching _ k) tt e.entered_at-c.ensures c.read_branching-r.ensures in
+    let g = c.args in
+    let w = in_first g.p.now c.requires.0 c.requires.1 in
+    let k : get_or (take 16 g.p.now) 0 0 ≡ 4 = sym c.kind-kind.ensures ∙ c.if-kind-eq-BRANCHING.true in
+    let z = alone g.k g.b g.y g.at 5 _ _ g.p.now g.kinds.now _ _ _ c.requires.0 (length_at (sym k ∙ w.0)) w.1 (decode_branching _ k) tt c.entered_at-c.ensures c.read_branching-r.ensures in
     record {
       records = z.0;
       by_index = λ q. z.1 q _ _ _;
     }
 
 pub read_curve-r-requires : goal.read_curve-r-requires
-read_curve-r-requires c = decode_curve _ (curve-at c.before.before)
+read_curve-r-requires c = decode_curve _ (curve_at c.args.p.now _ c.requires.0 c.requires.1 c.kind-kind.ensures c.if-kind-gt-TIMED_EFFECT.true)
 
 pub returns-then-kind-gt-TIMED_EFFECT : goal.returns-then-kind-gt-TIMED_EFFECT
 unfolding body_length if_eq Other
 returns-then-kind-gt-TIMED_EFFECT c =
-    let e = c.before.before in
-    let w = in-first e.before.before.before in
-    let s = e.before.before.before.before.before.before in
-    let g = s.args in
-    let k = curve-at e.before in
-    let z = alone g.k g.b g.y g.at 6 _ _ g.p.now g.kinds.now _ _ _ s.requires.0 (length_at (sym k ∙ w.0)) w.1 (decode_curve _ k) tt e.entered_at-c-then-kind-gt-TIMED_EFFECT.ensures c.read_curve-r.ensures in
+    let g = c.args in
+    let w = in_first g.p.now c.requires.0 c.requires.1 in
+    let k = curve_at g.p.now _ c.requires.0 c.requires.1 c.kind-kind.ensures c.if-kind-gt-TIMED_EFFECT.true in
+    let z = alone g.k g.b g.y g.at 6 _ _ g.p.now g.kinds.now _ _ _ c.requires.0 (length_at (sym k ∙ w.0)) w.1 (decode_curve _ k) tt c.entered_at-c-then-kind-gt-TIMED_EFFECT.ensures c.read_curve-r.ensures in
     record {
       records = z.0;
       by_index = λ q. z.1 q _ _ _;
     }
 
 pub read_outcome-r-requires : goal.read_outcome-r-requires
-read_outcome-r-requires c = decode_outcome _ (outcome-at c.before.before.before)
+read_outcome-r-requires c = decode_outcome _ (sym c.kind-kind.ensures ∙ c.if-kind-eq-OUTCOME.true)
 
 pub returns-then-kind-eq-OUTCOME : goal.returns-then-kind-eq-OUTCOME
 unfolding body_length if_eq
 returns-then-kind-eq-OUTCOME c =
-    let e = c.before.before.before in
-    let w = in-first e.before.before.before.before in
-    let s = e.before.before.before.before.before.before.before in
-    let g = s.args in
+    let g = c.args in
     let l = g.p.now in
-    let n : 4 ≡ length_of l = length_at (sym (outcome-at e.before) ∙ w.0) in record {
-      records = records_alone l 4 n s.requires.0;
+    let w = in_first l c.requires.0 c.requires.1 in
+    let k : get_or (take 16 l) 0 0 ≡ 5 = sym c.kind-kind.ensures ∙ c.if-kind-eq-OUTCOME.true in
+    let n : 4 ≡ length_of l = length_at (sym k ∙ w.0) in record {
+      records = records_alone l 4 n c.requires.0;
       by_index = λ q.
-          entered_after _ g.k g.b g.y g.at 4 4 l g.kinds.now q _ _ _ _ _ n e.entered_at-c-then-kind-eq-OUTCOME.ensures
+          entered_after _ g.k g.b g.y g.at 4 4 l g.kinds.now q _ _ _ _ _ n c.entered_at-c-then-kind-eq-OUTCOME.ensures
           (read_alone _ _ q _ _ _ _ l 4 n (rw w.1 at (c.read_outcome-r.ensures q g.sums.now g.margins.now g.facts.now)));
     }
 
 pub read_leak-r-requires : goal.read_leak-r-requires
-read_leak-r-requires c = decode_leak _ (leak-at c.before.before)
+read_leak-r-requires c = decode_leak _ (sym c.kind-kind.ensures ∙ c.if-kind-eq-LEAK.true)
 
 pub returns-then-kind-eq-LEAK : goal.returns-then-kind-eq-LEAK
 unfolding body_length if_eq Other
 returns-then-kind-eq-LEAK c =
-    let e = c.before.before in
-    let w = in-first e.before.before.before.before.before in
-    let s = e.before.before.before.before.before.before.before.before in
-    let g = s.args in
-    let k = leak-at e.before in
-    let z = alone g.k g.b g.y g.at 13 _ _ g.p.now g.kinds.now _ _ _ s.requires.0 (length_at (sym k ∙ w.0)) w.1 (decode_leak _ k) tt e.entered_at-c-then-kind-eq-LEAK.ensures c.read_leak-r.ensures in
+    let g = c.args in
+    let w = in_first g.p.now c.requires.0 c.requires.1 in
+    let k : get_or (take 16 g.p.now) 0 0 ≡ 3 = sym c.kind-kind.ensures ∙ c.if-kind-eq-LEAK.true in
+    let z = alone g.k g.b g.y g.at 13 _ _ g.p.now g.kinds.now _ _ _ c.requires.0 (length_at (sym k ∙ w.0)) w.1 (decode_leak _ k) tt c.entered_at-c-then-kind-eq-LEAK.ensures c.read_leak-r.ensures in
     record {
       records = z.0;
       by_index = λ q. z.1 q _ _ _;
@@ -157,32 +134,32 @@ unfolding body_length if_eq
 length_most l (inl h) = rw h (omega arith)
 length_most l (inr h) = rw h (omega arith)
 
-length-here : (c : goal.After-effect_length-n) → c.effect_length-n.result ≡ length_of c.args.p.now
-length-here c =
-    let k = c.before.before.before.before.before in
-    length_is k.args.p.now _ _ (effect-at c.before) (k.kind-kind.ensures ∙ (in-first k).0) c.effect_length-n.ensures
+length_here : (l : List ℕ) (k n : ℕ) → 16 ≤ length l → of_scenario (get_or l 0 0) ≡ true → IsEffect l → k ≡ get_or (take 16 l) 0 0 → n ≡ if_eq k 8 10 9 → n ≡ length_of l
+length_here l k n room h i e q = length_is l k n i (e ∙ (in_first l room h).0) q
 
 pub entered_at-c-requires-2 : goal.entered_at-c-requires-2
 entered_at-c-requires-2 c =
-    let s = c.before.before.before.before.before.before.before.before in
-    omega (arith, length-here c, length_most s.args.p.now (effect-at c.before), s.requires.0, s.requires.2)
+    let l = c.args.p.now in
+    let i = effect_at l _ c.requires.0 c.requires.1 c.kind-kind.ensures c.if-kind-eq-BRANCHING.false c.if-kind-gt-TIMED_EFFECT.false c.if-kind-eq-OUTCOME.false c.if-kind-eq-LEAK.false in
+    omega (arith, length_here l _ _ c.requires.0 c.requires.1 i c.kind-kind.ensures c.effect_length-n.ensures, length_most l i, c.requires.0, c.requires.2)
 
 pub read_effects-requires : goal.read_effects-requires
 read_effects-requires c =
-    let e = c.before.before.before in
-    let n = length-here e.before in
-    let s = e.before.before.before.before.before.before.before.before.before in
+    let l = c.args.p.now in
+    let i = effect_at l _ c.requires.0 c.requires.1 c.kind-kind.ensures c.if-kind-eq-BRANCHING.false c.if-kind-gt-TIMED_EFFECT.false c.if-kind-eq-OUTCOME.false c.if-kind-eq-LEAK.false in
+    let n = length_here l _ _ c.requires.0 c.requires.1 i c.kind-kind.ensures c.effect_length-n.ensures in
     record {
-      in_bounds = (s.requires.0, effect-at e.before.before);
-      have_value = rw e.entered_at-c-2.ensures (n, ap (λ (x : ℕ). s.args.at + x) n, s.requires.2);
+      in_bounds = (c.requires.0, i);
+      have_value = rw c.entered_at-c-2.ensures (n, ap (λ (x : ℕ). c.args.at + x) n, c.requires.2);
     }
 
 pub returns : goal.returns
 returns c =
-    let e = c.before.before.before.before in
-    let s = e.before.before.before.before.before.before.before.before.before in
-    let g = s.args in
+    let g = c.args in
+    let l = g.p.now in
+    let i = effect_at l _ c.requires.0 c.requires.1 c.kind-kind.ensures c.if-kind-eq-BRANCHING.false c.if-kind-gt-TIMED_EFFECT.false c.if-kind-eq-OUTCOME.false c.if-kind-eq-LEAK.false in
+    let n = length_here l _ _ c.requires.0 c.requires.1 i c.kind-kind.ensures c.effect_length-n.ensures in
     record {
       records = c.read_effects.ensures.records;
-      by_index = λ q. entered_after _ g.k g.b g.y g.at _ _ g.p.now g.kinds.now q _ _ _ _ _ (length-here e.before) e.entered_at-c-2.ensures (c.read_effects.ensures.by_index g.kinds.now q _);
+      by_index = λ q. entered_after _ g.k g.b g.y g.at _ _ l g.kinds.now q _ _ _ _ _ n c.entered_at-c-2.ensures (c.read_effects.ensures.by_index g.kinds.now q _);
     }

@@ -13,24 +13,15 @@ use Rattle.study.proofs.scenarios.read_scenarios.Goals as goal
 pub overflow_add-n : goal.overflow_add-n
 overflow_add-n c = omega (arith, c.body_length-n.ensures, body_most c.kind.result)
 
--- the length of the first record
-length-first : (c : goal.After-body_length-n) → c.body_length-n.result + 1 ≡ length_of c.args.bytes.now
-length-first c = rw (c.body_length-n.ensures, c.kind.ensures) refl
-
--- the places are within their width
-in-width : (c : goal.Start) → (length c.args.bytes.now ≤ most64) × (c.args.c.reading.place ≤ most64)
-in-width c = (omega (arith, c.well_formed), search rules)
-
 pub returns : goal.returns
 returns c =
-    let m = c.before in
-    let t = m.before.before in
-    let b = t.before.before.before.before.before.before in
-    let s = b.before.before.before in
-    let g = s.args in
+    let g = c.args in
     let l = g.bytes.now in
-    let r = t.read_from_first-run.ensures in
+    let r = c.read_from_first-run.ensures in
+    let first : c.body_length-n.result + 1 ≡ length_of l = rw (c.body_length-n.ensures, c.kind.ensures) refl in
+    let wide : length l ≤ most64 = omega (arith, c.well_formed) in
+    let far : g.c.reading.place ≤ most64 = search rules in
     record {
-      records = r.0;
-      by_index = λ q. rw (c.core_reading.ensures, m.moved-h.ensures, length-first b) (placed l _ r.0 (in-width s).0 g.c.reading _ _ _ q _ _ _ _ _ _ _ _ _ _ (in-width s).1 (r.1 q));
+      records = r.records;
+      by_index = λ q. rw (c.core_reading.ensures, c.moved-h.ensures, first) (placed l _ r.records wide g.c.reading _ _ _ q _ _ _ _ _ _ _ _ _ _ far (r.by_index q));
     }

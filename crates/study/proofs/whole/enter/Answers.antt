@@ -9,11 +9,17 @@ pub entered-begun-requires : goal.entered-begun-requires
 entered-begun-requires c = (c.requires.0 c.if-direct.true).between
 
 pub returns-then-direct : goal.returns-then-direct
-returns-then-direct c = (refl, (λ z. (refl, c.entered-begun.ensures), λ z. absurd (subst T (sym c.if-direct.true ∙ z) tt)))
+returns-then-direct c = record {
+  p_len_unchanged = refl;
+  whole_value = λ z. (refl, c.entered-begun.ensures);
+  bytes_value = λ z. absurd (subst T (sym c.if-direct.true ∙ z) tt);
+}
 
 pub returns : goal.returns
 returns c =
-    let e = c.enter_byte.ensures in (
-      rw e.1 (pending_wide _ _ _),
-      (λ z. absurd (subst T (sym z ∙ c.if-direct.false) tt), λ z l k s m f. rw (e.0, e.1) (step_by_parts _ _ k s m f _)),
-    )
+    let e = c.enter_byte.ensures in
+    record {
+      p_len_unchanged = rw e.p_after (pending_wide _ _ _);
+      whole_value = λ z. absurd (subst T (sym z ∙ c.if-direct.false) tt);
+      bytes_value = λ z l k s m f. rw (e.value, e.p_after) (step_by_parts _ _ k s m f _);
+    }
