@@ -1,50 +1,47 @@
 // A whole file.
-ghost use Rattle.std.specs.Prelude.{◌≤◌, length};
+ghost use Rattle.std.specs.Prelude.{◌≤◌, IfOk, length};
 
-// How many bytes were read, whether there may be more, and whether a read failed or the file is longer than the buffer.
+use std::io;
+
+// The system's number for a file that is too large.
+const TOO_LARGE: i32 = 27;
+
+// How many bytes were read, and whether there may be more.
 #[derive(Clone, Copy)]
 pub(crate) struct Read {
     pub(crate) count: usize,
     pub(crate) more: bool,
-    pub(crate) failed: bool,
 }
 
-// Reads once, after the first n bytes of the buffer.
-fn read_more(fd: i32, buffer: &mut [u8], n: usize) -> Read
+// Reads once, after the first n bytes of the buffer. A file that is longer than the buffer is too large.
+fn read_more<R: io::Read>(input: &mut R, buffer: &mut [u8], n: usize) -> io::Result<Read>
     requires { n ≤ length buffer.old }
-    ensures { result.count ≤ length buffer.old }
+    ensures { IfOk result (λ r. r.count ≤ length buffer.old) }
 {
-    let room = buffer.len() - n;
-    let got = libc::read(fd, &mut buffer[n..]);
-    if got < 0 || room == 0 {
-        return Read {
-            count: n,
-            more: false,
-            failed: true,
-        };
+    let k = input.read(&mut buffer[n..])?;
+    if n == buffer.len() {
+        return Err(io::Error::from_raw_os_error(TOO_LARGE));
     }
-    let k = io::count(got, &buffer[n..]);
-    Read {
+    Ok(Read {
         count: n + k,
         more: k != 0,
-        failed: false,
-    }
+    })
 }
 
 // The bytes of a file, at the front of the buffer.
-pub(crate) fn read_file(fd: i32, buffer: &mut [u8]) -> Read
-    ensures { result.count ≤ length buffer.new }
+pub(crate) fn read_file<R: io::Read>(input: &mut R, buffer: &mut [u8]) -> io::Result<Read>
+    ensures { IfOk result (λ r. r.count ≤ length buffer.new) }
 {
     let mut r = Read {
         count: 0,
         more: true,
-        failed: false,
     };
-    let mut turns = buffer.len();
-    while turns > 0 && r.more {
+    for _ in 0..buffer.len() {
+        if !r.more {
+            break;
+        }
         let n = r.count;
-        r = read_more(fd, buffer, n);
-        turns -= 1;
+        r = read_more(input, buffer, n)?;
     }
-    r
+    Ok(r)
 }

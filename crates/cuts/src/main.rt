@@ -1,12 +1,16 @@
 // Reads each study that an argument names whole, cut in two at every place, and byte by byte, with empty pieces between, and compares every answer: the last piece's number and place, the
 // totals, each target, the domino list. Document 01 has them the same wherever the bytes are cut.
 #![tactic(auto)]
+
 mod file;
 mod reports;
 
 ghost use Rattle.std.specs.Prelude.{◌≤◌, length};
 
-use libc::STDOUT_FILENO;
+use files::Name;
+use std::fs::File;
+use std::io;
+use std::rt::{Env, Files};
 use study::{Study, Taken};
 
 fn whole(bytes: &[u8]) -> Taken {
@@ -33,12 +37,10 @@ fn after_empty(s: Study, bytes: &[u8]) -> Study {
 fn byte_by_byte(bytes: &[u8]) -> Taken {
     let s = Study::fresh();
     let mut t = s.piece(&bytes[..0]);
-    let mut i: usize = 0;
-    while i < bytes.len() {
+    for i in 0..bytes.len() {
         let u = after_empty(t.study, bytes);
         let next = i + 1;
         t = u.piece(&bytes[i..next]);
-        i = next;
     }
     t
 }
@@ -57,66 +59,69 @@ fn same(a: Taken, b: Taken) -> bool {
 
 // The first place inside at which a cut gives another answer, or the length.
 fn first_difference(bytes: &[u8], t: Taken) -> usize {
-    let mut at: usize = 1;
-    while at < bytes.len() {
+    for at in 1..bytes.len() {
         if !same(t, in_two(bytes, at)) {
             return at;
         }
-        at += 1;
     }
     bytes.len()
 }
 
-fn compare(name: &[u8], bytes: &[u8]) {
-    io::write_all(STDOUT_FILENO, name);
+fn compare(rt: &impl Print, name: &str, bytes: &[u8]) -> io::Result<()> {
+    rt.print(name)?;
     let t = whole(bytes);
     let at = first_difference(bytes, t);
     if at < bytes.len() {
-        io::write_all(STDOUT_FILENO, b" differs at ");
-        io::print_decimal(STDOUT_FILENO, at as u64);
-        io::write_all(STDOUT_FILENO, b"\n");
-        return;
+        return println!(rt; " differs at {at}");
     }
     if same(t, byte_by_byte(bytes)) {
-        io::write_all(STDOUT_FILENO, b" agrees\n");
-        return;
+        return rt.println(" agrees");
     }
-    io::write_all(STDOUT_FILENO, b" differs byte by byte\n");
+    rt.println(" differs byte by byte")
 }
 
-// Opens the file that argument i names, and compares.
-fn compare_argument(i: usize) {
-    let mut path = io::buffer();
-    let length = os::arg(i, &mut path);
-    if os::errno() != 0 {
-        os::fail(b"argument");
-        return;
+fn compare_file<R: io::Read>(
+    rt: &(impl Print + Eprint),
+    file: &mut R,
+    name: &str,
+) -> io::Result<()> {
+    let mut bytes = [0u8; 65536];
+    match file::read_file(file, &mut bytes) {
+        Ok(r) => compare(rt, name, &bytes[..r.count]),
+        Err(why) => {
+            files::fail(rt, name, why);
+            Ok(())
+        }
     }
-    let fd = os::open_read(&path[..length]);
-    if fd < 0 {
-        os::fail(&path[..length]);
-        return;
-    }
-    compare_file(fd, &path[..length]);
-    libc::close(fd);
 }
 
-fn compare_file(fd: i32, name: &[u8]) {
-    let mut bytes = io::large_buffer();
-    let r = file::read_file(fd, &mut bytes);
-    if r.failed {
-        os::fail(name);
-        return;
+// Opens the file, and compares.
+fn compare_named(rt: &(impl Files + Print + Eprint), name: &str) -> io::Result<()> {
+    match File::open(rt, name) {
+        Ok(mut file) => compare_file(rt, &mut file, name),
+        Err(why) => {
+            files::fail(rt, name, why);
+            Ok(())
+        }
     }
-    let n = r.count;
-    compare(name, &bytes[..n]);
 }
 
-fn main() {
-    let count = os::arg_count();
-    let mut i: usize = 1;
-    while i < count {
-        compare_argument(i);
-        i += 1;
+// Compares the file that argument i names. Answers whether there is such an argument.
+fn compare_argument(rt: &(impl Env + Files + Print + Eprint), i: usize) -> io::Result<bool> {
+    let mut path = [0u8; files::MOST_BYTES];
+    match files::argument(rt, i, &mut path) {
+        Name::Text(name) => compare_named(rt, name)?,
+        Name::Failed(why) => files::fail(rt, "argument", why),
+        Name::Missing => return Ok(false),
     }
+    Ok(true)
+}
+
+fn main(rt: HostRuntime) -> io::Result<()> {
+    for i in 1..usize::MAX {
+        if !compare_argument(&rt, i)? {
+            break;
+        }
+    }
+    Ok(())
 }

@@ -5,14 +5,7 @@ use state::{TargetReport, Totals};
 use study::Study;
 
 fn same_kinds(x: [u64; 6], y: [u64; 6]) -> bool {
-    let mut k: usize = 0;
-    while k < 6 {
-        if x[k] != y[k] {
-            return false;
-        }
-        k += 1;
-    }
-    true
+    x == y
 }
 
 fn same_totals(x: Totals, y: Totals) -> bool {
@@ -36,25 +29,16 @@ fn same_target(x: TargetReport, y: TargetReport) -> bool {
 
 // Each target, and the number after the last.
 fn same_targets(x: Study, y: Study, targets: u16) -> bool {
-    let mut t: u16 = 0;
-    while t < targets {
+    for t in 0..targets {
         if !same_target(x.target(t), y.target(t)) {
             return false;
         }
-        t += 1;
     }
     same_target(x.target(targets), y.target(targets))
 }
 
 fn same_list(x: &[u16], y: &[u16]) -> bool {
-    let mut i: usize = 0;
-    while i < x.len() && i < y.len() {
-        if x[i] != y[i] {
-            return false;
-        }
-        i += 1;
-    }
-    x.len() == y.len()
+    x == y
 }
 
 // The domino list, into two lent lists.

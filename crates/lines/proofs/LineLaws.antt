@@ -1,15 +1,9 @@
 -- A word behind a line's text. Assumes nothing.
-use mathlib.Core.Path.{◌≡◌, refl, sym, ap, ◌∙◌}
-use mathlib.Core.Bool.{Bool, true, false}
-use mathlib.Core.List.{List, [], ◌++◌, append_assoc, append-nil}
-use Prim.Native.Nat.{ℕ, ◌+◌, ◌-◌, ◌^◌, ◌≤◌, ◌<◌, min}
-use native.Mathlib.Nat.{min-eq_left, min-eq_right, zero-add}
-use native.Mathlib.Numerals.{add-one}
-use native.Mathlib.Omega.{arith}
-use native.Mathlib.Decide.{dec_le}
-use lib.ListN.{length, take, drop, set, get_or, length-append, length-take}
-use lib.Seq.{paste, paste-suc, take-paste, take-length, take_all, length-take-le}
-use lib.Dec.{eqb, lit≤}
+use Rattle.std.proofs.Common.{◌≡◌, refl, sym, ap, ◌∙◌, Bool, true, false, eqb, List, [], ◌++◌, append_assoc, append-nil, ℕ, ◌+◌, ◌-◌, ◌^◌, ◌≤◌, ◌<◌, min, length, take, drop, set, get_or, zero-add, add-one, arith, lit≤, length-append, length-take, length-take-le, take_all}
+use Rattle.std.proofs.Math.Nat.{min-eq_left, min-eq_right}
+use Rattle.std.proofs.Math.Decide.{dec_le}
+use Rattle.std.proofs.Math.Seq.{paste, paste-suc, take-length}
+use Rattle.std.proofs.lemmas.List.Edits.{take-paste}
 use Rattle.io.specs.Counts.{IsPrefixLen}
 use Rattle.numeric.specs.Choice.{pick, if_eq, if_le}
 use Rattle.numeric.proofs.ChoiceLaws.{le_case, gt_case, eq_both}

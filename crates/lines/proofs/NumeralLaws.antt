@@ -1,13 +1,7 @@
 -- A number in decimal: io's digits, the fewest that hold it, are it, and a number below 2^64 has at most 20. Assumes nothing.
-use mathlib.Core.Path.{◌≡◌, refl, sym, ap, ◌∙◌}
-use mathlib.Core.List.{List, [], ◌∷◌, ◌++◌}
-use Prim.Native.Nat.{ℕ, zero, suc, ◌+◌, ◌-◌, ◌*◌, ◌/◌, ◌%◌, ◌^◌, ◌≤◌, ◌<◌}
-use native.Mathlib.Nat.{pow-suc, one-le-pow, mod-lt, div-lt_self, div-lt_iff_lt-mul, le-div_iff_mul-le, lt_of_lt_of_le}
-use native.Mathlib.Omega.{arith}
-use native.Mathlib.Decide.{dec_lt}
-use lib.Dec.{lit<, lit≤}
-use lib.ListN.{length, length-append}
-use borrow.Author.Tests.{lt-ltb}
+use Rattle.std.proofs.Common.{◌≡◌, refl, sym, ap, ◌∙◌, List, [], ◌∷◌, ◌++◌, ℕ, zero, suc, ◌-◌, ◌/◌, ◌%◌, ◌^◌, ◌≤◌, ◌<◌, length, pow-suc, mod-lt, div-lt_iff_lt-mul, le-div_iff_mul-le, lt_of_lt_of_le, arith, lit<, lit≤, length-append, lt-ltb}
+use Rattle.std.proofs.Math.Nat.{one-le-pow, div-lt_self}
+use Rattle.std.proofs.Math.Decide.{dec_lt}
 use Rattle.io.specs.Digits.{hex_digit_ascii, last_digits, IsDigitCount}
 use Rattle.numeric.proofs.ChoiceLaws.{lt_case, ge_case}
 use Rattle.lines.specs.Text.{last_digit, numeral, decimal}

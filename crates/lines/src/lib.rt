@@ -1,5 +1,6 @@
 // The lines of the report's text (document 01, "The specimen study"), each as bytes by value.
 #![tactic(auto)]
+
 ghost use Rattle.std.specs.Prelude.{◌≡◌, [], ◌++◌, ◌+◌, ◌≤◌, min, length, drop};
 ghost use Rattle.std.proofs.Math.Seq.{paste};
 ghost use Rattle.io.specs.Counts.{IsPrefixLen};
@@ -111,7 +112,8 @@ impl Line {
     fn judged(self, r: TargetReport) -> Line
         ensures { text_of result ≡ if_eq r.class people (appended (appended (text_of self) grade_word) (decimal r.grade)) (pick r.listed (appended (text_of self) domino_word) (text_of self)) }
     {
-        if r.class == class::PEOPLE {
+        let of_people = r.class == class::PEOPLE;
+        if of_people {
             return self.figure(b" grade ", r.grade as u64);
         }
         if r.listed {

@@ -1,5 +1,6 @@
 // The report of a study as text, line by line.
 #![tactic(auto)]
+
 ghost use Rattle.std.specs.Prelude.{◌≡◌, [], ◌∷◌, length, get_or, ◌+◌};
 ghost use Rattle.numeric.specs.Choice.{if_eq};
 ghost use Rattle.model.specs.Machine.{target_in};

@@ -8,97 +8,93 @@ use terms::class;
 // What each lent number holds before a call for the domino list.
 const BEFORE: u16 = 65_535;
 
-fn piece_line(study: Study, bytes: &[u8]) -> Study {
+fn piece_line(rt: &(impl Print + Eprint), study: Study, bytes: &[u8]) -> Study {
     let taken = study.piece(bytes);
-    line::answer(b"piece", taken.number, taken.place);
-    line::end();
+    line::answer(rt, "piece", taken.number, taken.place);
+    line::end(rt);
     taken.study
 }
 
 // The piece is the first n bytes, or all where there are fewer. Answers the study after it.
-pub(crate) fn piece(study: Study, n: usize, bytes: &[u8]) -> Study {
+pub(crate) fn piece(rt: &(impl Print + Eprint), study: Study, n: usize, bytes: &[u8]) -> Study {
     if n <= bytes.len() {
-        return piece_line(study, &bytes[..n]);
+        return piece_line(rt, study, &bytes[..n]);
     }
-    piece_line(study, bytes)
+    piece_line(rt, study, bytes)
 }
 
-fn kinds(kinds: [u64; 6]) {
-    line::text(b" kinds");
-    let mut k: usize = 0;
-    while k < 6 {
-        line::number(kinds[k]);
-        k += 1;
+fn kinds(rt: &(impl Print + Eprint), kinds: [u64; 6]) {
+    line::text(rt, " kinds");
+    for k in kinds {
+        line::number(rt, k);
     }
 }
 
-fn total_figures(t: Totals) {
-    line::named(b" study", t.study as u64);
-    line::named(b" records", t.records as u64);
-    line::named(b" leaks", t.leaks);
+fn total_figures(rt: &(impl Print + Eprint), t: Totals) {
+    line::named(rt, " study", t.study as u64);
+    line::named(rt, " records", t.records as u64);
+    line::named(rt, " leaks", t.leaks);
     let six = t.kinds;
-    kinds(six);
-    line::named(b" unjudged", t.unjudged as u64);
+    kinds(rt, six);
+    line::named(rt, " unjudged", t.unjudged as u64);
 }
 
-pub(crate) fn totals(study: Study) {
+pub(crate) fn totals(rt: &(impl Print + Eprint), study: Study) {
     let t = study.totals();
-    line::answer(b"totals", t.number, t.place);
+    line::answer(rt, "totals", t.number, t.place);
     if t.number == 0 {
-        total_figures(t);
+        total_figures(rt, t);
     }
-    line::end();
+    line::end(rt);
 }
 
 // The grade of a place of people, the mark of equipment on the domino list.
-fn judged(class: u8, grade: u8, listed: bool) {
+fn judged(rt: &(impl Print + Eprint), class: u8, grade: u8, listed: bool) {
     if class == class::PEOPLE {
-        line::named(b" grade", grade as u64);
+        line::named(rt, " grade", grade as u64);
         return;
     }
     if listed {
-        line::text(b" domino");
+        line::text(rt, " domino");
     }
 }
 
-pub(crate) fn target(study: Study, t: u16) {
+pub(crate) fn target(rt: &(impl Print + Eprint), study: Study, t: u16) {
     let r = study.target(t);
-    line::answer(b"target", r.number, r.place);
+    line::answer(rt, "target", r.number, r.place);
     if r.number == 0 {
-        line::named(b" sum", r.sum);
-        line::named(b" margin", r.margin as u64);
-        judged(r.class, r.grade, r.listed);
+        line::named(rt, " sum", r.sum);
+        line::named(rt, " margin", r.margin as u64);
+        judged(rt, r.class, r.grade, r.listed);
     }
-    line::end();
+    line::end(rt);
 }
 
 fn wide(x: u16) -> u64 {
     x as u64
 }
 
-fn number_list(lent: &[u16]) {
-    line::text(b" lent");
-    let mut i: usize = 0;
-    while i < lent.len() {
-        line::number(wide(lent[i]));
-        i += 1;
+fn number_list(rt: &(impl Print + Eprint), lent: &[u16]) {
+    line::text(rt, " lent");
+    for x in lent {
+        line::number(rt, wide(*x));
     }
 }
 
-fn domino_line(study: Study, lent: &mut [u16]) {
+fn domino_line(rt: &(impl Print + Eprint), study: Study, lent: &mut [u16]) {
     let r = study.domino(lent);
-    line::answer(b"domino", r.number, r.place);
+    line::answer(rt, "domino", r.number, r.place);
     if r.number == 0 {
-        line::named(b" count", r.count as u64);
+        line::named(rt, " count", r.count as u64);
     }
-    number_list(lent);
-    line::end();
+    number_list(rt, lent);
+    line::end(rt);
 }
 
 // Into n lent numbers.
-pub(crate) fn domino(study: Study, n: usize) {
+pub(crate) fn domino(rt: &(impl Print + Eprint), study: Study, n: usize) {
     let mut lent = [BEFORE; MOST_NUMBERS];
     if n <= MOST_NUMBERS {
-        domino_line(study, &mut lent[..n]);
+        domino_line(rt, study, &mut lent[..n]);
     }
 }

@@ -1,5 +1,7 @@
-// The calls of a list, read from a descriptor.
+// The calls of a list, read from a file or a stream.
 ghost use Rattle.std.specs.Prelude.{◌≤◌, length};
+
+use std::io;
 
 // The most numbers that a call for the domino list may lend.
 pub(crate) const MOST_NUMBERS: usize = 300;
@@ -32,23 +34,27 @@ enum Got {
 }
 
 // Reads once, after the first n bytes.
-fn read_more(fd: i32, bytes: &mut [u8], n: usize) -> Read
+fn read_more<R: io::Read>(list: &mut R, bytes: &mut [u8], n: usize) -> Read
     requires { n ≤ length bytes.old }
     ensures { result.count ≤ length bytes.old }
 {
-    let got = libc::read(fd, &mut bytes[n..]);
-    let k = io::count(got, &bytes[n..]);
-    Read {
-        count: n + k,
-        failed: got < 0,
+    match list.read(&mut bytes[n..]) {
+        Ok(k) => Read {
+            count: n + k,
+            failed: false,
+        },
+        Err(_) => Read {
+            count: n,
+            failed: true,
+        },
     }
 }
 
 // As many bytes as there is room for.
-fn fill(fd: i32, bytes: &mut [u8]) -> Got {
+fn fill<R: io::Read>(list: &mut R, bytes: &mut [u8]) -> Got {
     let mut n: usize = 0;
     while n < bytes.len() {
-        let r = read_more(fd, bytes, n);
+        let r = read_more(list, bytes, n);
         if r.failed {
             return Got::Failed;
         }
@@ -65,21 +71,21 @@ fn joined(high: u8, low: u8) -> u16 {
 }
 
 // The next n bytes, to the front of the lent ones.
-fn piece(fd: i32, n: u16, bytes: &mut [u8]) -> Call {
+fn piece<R: io::Read>(list: &mut R, n: u16, bytes: &mut [u8]) -> Call {
     let k = n as usize;
     if bytes.len() < k {
         return Call::Bad;
     }
-    match fill(fd, &mut bytes[..k]) {
+    match fill(list, &mut bytes[..k]) {
         Got::Short => Call::Bad,
         Got::Failed => Call::Failed,
         Got::All => Call::Piece(n),
     }
 }
 
-fn numbered(fd: i32, letter: u8, n: u16, bytes: &mut [u8]) -> Call {
+fn numbered<R: io::Read>(list: &mut R, letter: u8, n: u16, bytes: &mut [u8]) -> Call {
     if letter == b'p' {
-        return piece(fd, n, bytes);
+        return piece(list, n, bytes);
     }
     if letter == b'g' {
         return Call::Target(n);
@@ -91,7 +97,7 @@ fn numbered(fd: i32, letter: u8, n: u16, bytes: &mut [u8]) -> Call {
 }
 
 // A call's number has two bytes, most significant first.
-fn call_of(fd: i32, letter: u8, bytes: &mut [u8]) -> Call {
+fn call_of<R: io::Read>(list: &mut R, letter: u8, bytes: &mut [u8]) -> Call {
     if letter == b't' {
         return Call::Totals;
     }
@@ -99,20 +105,20 @@ fn call_of(fd: i32, letter: u8, bytes: &mut [u8]) -> Call {
         return Call::Bad;
     }
     let mut two = [0u8; 2];
-    match fill(fd, &mut two) {
+    match fill(list, &mut two) {
         Got::Short => Call::Bad,
         Got::Failed => Call::Failed,
-        Got::All => numbered(fd, letter, joined(two[0], two[1]), bytes),
+        Got::All => numbered(list, letter, joined(two[0], two[1]), bytes),
     }
 }
 
 // The next call. The bytes of a piece are then at the front of the lent ones.
-pub(crate) fn next_call(fd: i32, bytes: &mut [u8]) -> Call {
+pub(crate) fn next_call<R: io::Read>(list: &mut R, bytes: &mut [u8]) -> Call {
     let mut letter = [0u8; 1];
-    match fill(fd, &mut letter) {
+    match fill(list, &mut letter) {
         Got::Short => Call::End,
         Got::Failed => Call::Failed,
-        Got::All => call_of(fd, letter[0], bytes),
+        Got::All => call_of(list, letter[0], bytes),
     }
 }
 

@@ -1,30 +1,29 @@
 // The parts of a line, each written as it comes.
-use libc::{STDERR_FILENO, STDOUT_FILENO};
 
-pub(crate) fn text(bytes: &[u8]) {
-    if !io::write_all(STDOUT_FILENO, bytes) {
-        io::write_all(STDERR_FILENO, b"replay: an answer cannot be written\n");
+pub(crate) fn text(rt: &(impl Print + Eprint), words: &str) {
+    if rt.print(words).is_err() {
+        let _ = eprintln!(rt; "replay: an answer cannot be written");
     }
 }
 
 // A blank and a number.
-pub(crate) fn number(n: u64) {
-    text(b" ");
-    io::print_decimal(STDOUT_FILENO, n);
+pub(crate) fn number(rt: &(impl Print + Eprint), n: u64) {
+    text(rt, " ");
+    let _ = rt.print(n);
 }
 
 // A word, a blank and a number.
-pub(crate) fn named(name: &[u8], n: u64) {
-    text(name);
-    number(n);
+pub(crate) fn named(rt: &(impl Print + Eprint), name: &str, n: u64) {
+    text(rt, name);
+    number(rt, n);
 }
 
 // A word, a blank, the answer's number, ` at ` and its place.
-pub(crate) fn answer(name: &[u8], n: u8, place: u64) {
-    named(name, n as u64);
-    named(b" at", place);
+pub(crate) fn answer(rt: &(impl Print + Eprint), name: &str, n: u8, place: u64) {
+    named(rt, name, n as u64);
+    named(rt, " at", place);
 }
 
-pub(crate) fn end() {
-    text(b"\n");
+pub(crate) fn end(rt: &(impl Print + Eprint)) {
+    text(rt, "\n");
 }

@@ -5,91 +5,96 @@
 // list into n lent numbers that hold 65535 before. Lengths and numbers have two bytes, most significant first. Anything else ends the list with a line
 // `bad call`. docs/REPLAY_LIST.md works out the answers to the stored lists.
 #![tactic(auto)]
+
 mod answers;
 mod calls;
 mod line;
 
 use calls::Call;
-use libc::{STDERR_FILENO, STDIN_FILENO};
+use files::Name;
+use std::fs::File;
+use std::io;
+use std::rt::{Env, Files};
 use study::Study;
 
 // Answers the call, and gives the study after it. The bytes of a piece are the first ones.
-fn answer(study: Study, call: Call, bytes: &[u8]) -> Study {
+fn answer(rt: &(impl Print + Eprint), study: Study, call: Call, bytes: &[u8]) -> Study {
     match call {
-        Call::Piece(n) => answers::piece(study, n as usize, bytes),
+        Call::Piece(n) => answers::piece(rt, study, n as usize, bytes),
         Call::Totals => {
-            answers::totals(study);
+            answers::totals(rt, study);
             study
         }
         Call::Target(t) => {
-            answers::target(study, t);
+            answers::target(rt, study, t);
             study
         }
         Call::Domino(n) => {
-            answers::domino(study, n as usize);
+            answers::domino(rt, study, n as usize);
             study
         }
         Call::Bad => {
-            line::text(b"bad call\n");
+            line::text(rt, "bad call\n");
             study
         }
         Call::End => study,
         Call::Failed => {
-            io::write_all(STDERR_FILENO, b"replay: the list cannot be read\n");
+            let _ = eprintln!(rt; "replay: the list cannot be read");
             study
         }
     }
 }
 
-// A proved loop has to end, and nothing says that a list does: the turns are counted down, from a number that no run uses up.
-fn replay(fd: i32, bytes: &mut [u8]) {
+// A proved loop has to end, and nothing says that a list does: the turns are counted up, to a number that no run reaches.
+fn replay<R: io::Read>(rt: &(impl Print + Eprint), list: &mut R, bytes: &mut [u8]) {
     let mut study = Study::fresh();
-    let mut more = true;
-    let mut turns = u64::MAX;
-    while turns > 0 && more {
-        let call = calls::next_call(fd, bytes);
-        study = answer(study, call, bytes);
-        more = calls::goes_on(call);
-        turns -= 1;
+    for _ in 0..u64::MAX {
+        let call = calls::next_call(list, bytes);
+        study = answer(rt, study, call, bytes);
+        if !calls::goes_on(call) {
+            break;
+        }
     }
 }
 
-// The list that a descriptor has.
-fn replay_list(fd: i32) {
-    let mut bytes = io::large_buffer();
-    replay(fd, &mut bytes);
+// The list that a file or a stream has.
+fn replay_list<R: io::Read>(rt: &(impl Print + Eprint), list: &mut R) {
+    let mut bytes = [0u8; 65536];
+    replay(rt, list, &mut bytes);
 }
 
-fn title(name: &[u8]) {
-    line::text(b"list ");
-    line::text(name);
-    line::end();
+fn title(rt: &(impl Print + Eprint), name: &str) {
+    line::text(rt, "list ");
+    line::text(rt, name);
+    line::end(rt);
 }
 
-// The list in the file that argument i names.
-fn replay_argument(i: usize) {
-    let mut path = io::buffer();
-    let length = os::arg(i, &mut path);
-    if os::errno() != 0 {
-        os::fail(b"argument");
-        return;
+fn replay_named(rt: &(impl Files + Print + Eprint), name: &str) {
+    match File::open(rt, name) {
+        Err(why) => files::fail(rt, name, why),
+        Ok(mut list) => {
+            title(rt, name);
+            replay_list(rt, &mut list);
+        }
     }
-    let fd = os::open_read(&path[..length]);
-    if fd < 0 {
-        os::fail(&path[..length]);
-        return;
-    }
-    title(&path[..length]);
-    replay_list(fd);
-    libc::close(fd);
 }
 
-fn main() {
-    replay_list(STDIN_FILENO);
-    let count = os::arg_count();
-    let mut i: usize = 1;
-    while i < count {
-        replay_argument(i);
-        i += 1;
+// The list in the file that argument i names. Answers whether there is such an argument.
+fn replay_argument(rt: &(impl Env + Files + Print + Eprint), i: usize) -> bool {
+    let mut path = [0u8; files::MOST_BYTES];
+    match files::argument(rt, i, &mut path) {
+        Name::Text(name) => replay_named(rt, name),
+        Name::Failed(why) => files::fail(rt, "argument", why),
+        Name::Missing => return false,
+    }
+    true
+}
+
+fn main(rt: HostRuntime) {
+    replay_list(&rt, &mut rt.stdin());
+    for i in 1..usize::MAX {
+        if !replay_argument(&rt, i) {
+            break;
+        }
     }
 }

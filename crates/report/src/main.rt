@@ -1,40 +1,36 @@
 // Reads a study from standard input, in pieces as they come, and prints its report (document 01, "The specimen study").
 #![tactic(auto)]
-use libc::{STDERR_FILENO, STDIN_FILENO, STDOUT_FILENO};
+
 use lines::Line;
+use std::io;
 use study::{Study, Taken};
 
-// What a read left: the study with the answer to its last piece, whether there may be more, and whether the read failed.
+// What a read left: the study with the answer to its last piece, and whether there may be more.
 #[derive(Clone, Copy)]
 struct Turn {
     taken: Taken,
     more: bool,
-    failed: bool,
 }
 
 // One read, of what the buffer holds at most. A piece has bytes, so that its answer is 7 wherever bytes follow the closing record.
-fn read_piece(before: Taken, buffer: &mut [u8]) -> Turn {
-    let got = libc::read(STDIN_FILENO, buffer);
-    if got <= 0 {
-        return Turn {
+fn read_piece<R: io::Read>(input: &mut R, before: Taken, buffer: &mut [u8]) -> io::Result<Turn> {
+    let n = input.read(buffer)?;
+    if n == 0 {
+        return Ok(Turn {
             taken: before,
             more: false,
-            failed: got < 0,
-        };
+        });
     }
-    let n = io::count(got, buffer);
     let s = before.study;
-    Turn {
+    Ok(Turn {
         taken: s.piece(&buffer[..n]),
         more: true,
-        failed: false,
-    }
+    })
 }
 
-// Reads to the end. Nothing says that an input ends, so the turns are counted down from a number that no run uses up.
-fn read_all() -> Turn {
-    let mut space = io::large_buffer();
-    let buffer: &mut [u8] = &mut space;
+// Reads to the end. Nothing says that an input ends, so the turns are counted up to a number that no run reaches.
+fn read_all<R: io::Read>(input: &mut R) -> io::Result<Turn> {
+    let mut buffer = [0u8; 65536];
     let mut turn = Turn {
         taken: Taken {
             study: Study::fresh(),
@@ -42,47 +38,48 @@ fn read_all() -> Turn {
             place: 0,
         },
         more: true,
-        failed: false,
     };
-    let mut turns = u64::MAX;
-    while turns > 0 && turn.more {
+    for _ in 0..u64::MAX {
+        if !turn.more {
+            break;
+        }
         let taken = turn.taken;
-        turn = read_piece(taken, buffer);
-        turns -= 1;
+        turn = read_piece(input, taken, &mut buffer)?;
     }
-    turn
+    Ok(turn)
 }
 
 // Writes a line, or says on standard error that it could not be written.
-fn write_line(fd: i32, line: Line) -> bool {
+fn write_line(rt: &(impl Print + Eprint), line: Line) -> bool {
     let mut text = [0u8; 256];
     let n = line.put(&mut text);
-    if io::write_all(fd, &text[..n]) {
+    if rt.write_all(&text[..n]).is_ok() {
         return true;
     }
-    io::write_all(STDERR_FILENO, b"the report could not be written\n");
+    let _ = eprintln!(rt; "the report could not be written");
     false
 }
 
 // Prints the report, as far as it can be written.
-fn print_report(fd: i32, t: Taken) {
-    let n = printing::report_length(t);
-    let mut i = 0;
-    while i < n && write_line(fd, printing::report_line(t, i)) {
-        i += 1;
+fn print_report(rt: &(impl Print + Eprint), t: Taken) {
+    for i in 0..printing::report_length(t) {
+        if !write_line(rt, printing::report_line(t, i)) {
+            break;
+        }
     }
 }
 
-fn main() {
-    let turn = read_all();
-    if turn.failed {
-        io::write_all(STDERR_FILENO, b"standard input could not be read\n");
-        return;
+fn main(rt: HostRuntime) {
+    match read_all(&mut rt.stdin()) {
+        Err(_) => {
+            let _ = eprintln!(rt; "standard input could not be read");
+        }
+        Ok(turn) => {
+            if turn.more {
+                let _ = eprintln!(rt; "standard input does not end");
+            } else {
+                print_report(&rt, turn.taken);
+            }
+        }
     }
-    if turn.more {
-        io::write_all(STDERR_FILENO, b"standard input does not end\n");
-        return;
-    }
-    let taken = turn.taken;
-    print_report(STDOUT_FILENO, taken);
 }

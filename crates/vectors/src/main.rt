@@ -1,40 +1,39 @@
 // Prints the report of each study that an argument names, one after the other. The file `stdout` is the files `data/NAME.expected`, joined in the order of the arguments.
 #![tactic(auto)]
-use libc::{STDERR_FILENO, STDOUT_FILENO};
+
+use files::Name;
 use lines::Line;
+use std::fs::File;
+use std::io;
+use std::rt::{Env, Files};
 use study::{Study, Taken};
 
-// What a read left: the study with the answer to its last piece, whether there may be more, and whether the read failed.
+// What a read left: the study with the answer to its last piece, and whether there may be more.
 #[derive(Clone, Copy)]
 struct Turn {
     taken: Taken,
     more: bool,
-    failed: bool,
 }
 
 // One read, of what the buffer holds at most. A piece has bytes, so that its answer is 7 wherever bytes follow the closing record.
-fn read_piece(fd: i32, before: Taken, buffer: &mut [u8]) -> Turn {
-    let got = libc::read(fd, buffer);
-    if got <= 0 {
-        return Turn {
+fn read_piece<R: io::Read>(input: &mut R, before: Taken, buffer: &mut [u8]) -> io::Result<Turn> {
+    let n = input.read(buffer)?;
+    if n == 0 {
+        return Ok(Turn {
             taken: before,
             more: false,
-            failed: got < 0,
-        };
+        });
     }
-    let n = io::count(got, buffer);
     let s = before.study;
-    Turn {
+    Ok(Turn {
         taken: s.piece(&buffer[..n]),
         more: true,
-        failed: false,
-    }
+    })
 }
 
-// Reads to the end. Nothing says that a file ends, so the turns are counted down from a number that no run uses up.
-fn read_study(fd: i32) -> Turn {
-    let mut space = io::buffer();
-    let buffer: &mut [u8] = &mut space;
+// Reads to the end. Nothing says that a file ends, so the turns are counted up to a number that no run reaches.
+fn read_study<R: io::Read>(input: &mut R) -> io::Result<Turn> {
+    let mut buffer = [0u8; 4096];
     let mut turn = Turn {
         taken: Taken {
             study: Study::fresh(),
@@ -42,75 +41,78 @@ fn read_study(fd: i32) -> Turn {
             place: 0,
         },
         more: true,
-        failed: false,
     };
-    let mut turns = u64::MAX;
-    while turns > 0 && turn.more {
+    for _ in 0..u64::MAX {
+        if !turn.more {
+            break;
+        }
         let taken = turn.taken;
-        turn = read_piece(fd, taken, buffer);
-        turns -= 1;
+        turn = read_piece(input, taken, &mut buffer)?;
     }
-    turn
+    Ok(turn)
 }
 
 // Writes a line, or says on standard error that it could not be written.
-fn write_line(line: Line) -> bool {
+fn write_line(rt: &(impl Print + Eprint), line: Line) -> bool {
     let mut text = [0u8; 256];
     let n = line.put(&mut text);
-    if io::write_all(STDOUT_FILENO, &text[..n]) {
+    if rt.write_all(&text[..n]).is_ok() {
         return true;
     }
-    io::write_all(STDERR_FILENO, b"a report could not be written\n");
+    let _ = eprintln!(rt; "a report could not be written");
     false
 }
 
 // Prints the report, as far as it can be written.
-fn print_report(t: Taken) {
-    let n = printing::report_length(t);
-    let mut i = 0;
-    while i < n && write_line(printing::report_line(t, i)) {
-        i += 1;
+fn print_report(rt: &(impl Print + Eprint), t: Taken) {
+    for i in 0..printing::report_length(t) {
+        if !write_line(rt, printing::report_line(t, i)) {
+            break;
+        }
     }
 }
 
 // Says on standard error why a file is not read, and prints a line that no report has.
-fn not_read(name: &[u8]) {
-    os::fail(name);
-    io::write_all(STDOUT_FILENO, b"not read\n");
+fn not_read(rt: &(impl Print + Eprint), name: &str, why: io::Error) {
+    files::fail(rt, name, why);
+    let _ = println!(rt; "not read");
 }
 
-fn print_file(fd: i32, name: &[u8]) {
-    let turn = read_study(fd);
-    if turn.failed || turn.more {
-        not_read(name);
-        return;
+fn print_file<R: io::Read>(rt: &(impl Print + Eprint), file: &mut R, name: &str) {
+    match read_study(file) {
+        Err(why) => not_read(rt, name, why),
+        Ok(turn) => {
+            if turn.more {
+                not_read(rt, name, io::Error::from(io::ErrorKind::FileTooLarge));
+            } else {
+                print_report(rt, turn.taken);
+            }
+        }
     }
-    let taken = turn.taken;
-    print_report(taken);
 }
 
-// The study in the file that argument i names.
-fn print_argument(i: usize) {
-    let mut path = io::buffer();
-    let length = os::arg(i, &mut path);
-    if os::errno() != 0 {
-        not_read(b"argument");
-        return;
+fn print_named(rt: &(impl Files + Print + Eprint), name: &str) {
+    match File::open(rt, name) {
+        Err(why) => not_read(rt, name, why),
+        Ok(mut file) => print_file(rt, &mut file, name),
     }
-    let fd = os::open_read(&path[..length]);
-    if fd < 0 {
-        not_read(&path[..length]);
-        return;
-    }
-    print_file(fd, &path[..length]);
-    libc::close(fd);
 }
 
-fn main() {
-    let count = os::arg_count();
-    let mut i: usize = 1;
-    while i < count {
-        print_argument(i);
-        i += 1;
+// The study in the file that argument i names. Answers whether there is such an argument.
+fn print_argument(rt: &(impl Env + Files + Print + Eprint), i: usize) -> bool {
+    let mut path = [0u8; files::MOST_BYTES];
+    match files::argument(rt, i, &mut path) {
+        Name::Text(name) => print_named(rt, name),
+        Name::Failed(why) => not_read(rt, "argument", why),
+        Name::Missing => return false,
+    }
+    true
+}
+
+fn main(rt: HostRuntime) {
+    for i in 1..usize::MAX {
+        if !print_argument(&rt, i) {
+            break;
+        }
     }
 }

@@ -42,7 +42,7 @@ struct Options {
 
 fn options() -> Result<Options, String> {
     let mut options = Options {
-        replay: PathBuf::from("target/bin/replay"),
+        replay: PathBuf::from("crates/replay/out/replay"),
         count: DEFAULT_COUNT,
         seed: DEFAULT_SEED,
     };

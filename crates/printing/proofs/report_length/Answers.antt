@@ -1,0 +1,17 @@
+-- `printing::report_length` meets its contract. Assumes nothing.
+use Rattle.std.proofs.Common.{◌+◌, length, sym, ap, ◌∙◌, rules}
+use Rattle.numeric.specs.Choice.{if_eq}
+use Rattle.state.specs.declared.Totals.{Totals}
+use Rattle.study.proofs.RunLaws.{totals_given}
+use Rattle.printing.proofs.ListLaws.{report_seven, report_other, lines_length}
+use Rattle.printing.proofs.report_length.Goals as goal
+
+pub returns-then-t-eq7 : goal.returns-then-t-eq7
+returns-then-t-eq7 c = ap length (sym (report_seven _ (search rules)))
+
+pub returns : goal.returns
+returns c =
+    c.count_of.ensures
+    ∙ ap (λ (t : Totals). if_eq t.number 0 (8 + t.targets) 1) (totals_given c.totals.ensures)
+    ∙ sym (lines_length _ _)
+    ∙ ap length (sym (report_other _ (search rules)))
