@@ -6,13 +6,12 @@ use Prim.Native.Nat.{ℕ}
 use lib.ListN.{get_or}
 use native.Mathlib.Omega.{arith}
 use Rattle.numeric.specs.Choice.{if_eq, if_lt}
-use Rattle.numeric.specs.Fields.{field}
 use Rattle.numeric.proofs.ChoiceLaws.{eq_case, ne_case, eq_both}
 use Rattle.terms.specs.Terms.{tenths_unit, clock_of}
 use Rattle.model.specs.Content.{given, on_curve, described, Effect, target_of, intensity, duration, clock}
 use Rattle.model.specs.Format.{Record, opening_rec, target_rec, leak_rec, branching_rec, outcome_rec, effect_rec, closing_rec}
 use Rattle.model.specs.Faults.{unit_fault}
-use Rattle.model.specs.Verdict.{decode, facts_at}
+use Rattle.model.specs.Verdict.{field, decode, facts_at}
 use Rattle.decoding.specs.Effects.{unit_of, effect_of}
 
 module _ (l : List ℕ) where

@@ -1,3 +1,4 @@
+use Rattle.model.specs.Verdict.{field}
 -- A field of two, four and eight bytes, written out. Assumes nothing.
 use mathlib.Core.Path.{◌≡◌, refl}
 use mathlib.Core.List.{List}
@@ -5,7 +6,6 @@ use Prim.Native.Nat.{ℕ, ◌+◌, ◌*◌}
 use native.Mathlib.Nat.{add-zero, zero-add}
 use native.Mathlib.Omega.{arith}
 use lib.ListN.{get_or}
-use Rattle.numeric.specs.Fields.{field}
 
 pub field_1 : (l : List ℕ) (i : ℕ) → get_or l i 0 ≡ field l i 1
 unfolding field

@@ -1,10 +1,10 @@
 -- For the proofs. What effects of kinds 6 and 8 share. Assumes nothing.
 use Rattle.std.specs.Prelude.{List, ℕ, get_or}
 use Rattle.numeric.specs.Choice.{if_eq}
-use Rattle.numeric.specs.Fields.{field}
 use Rattle.terms.specs.Terms.{seconds_unit}
 use Rattle.model.specs.Content.{Effect, in_seconds, timed}
 use Rattle.model.specs.Format.{timed_kind}
+use Rattle.model.specs.Verdict.{field}
 
 -- the unit of an effect's duration: the last byte of kind 8; kind 6 counts in seconds
 unfoldable pub unit_of : List ℕ → ℕ

@@ -2,8 +2,7 @@
 #![tactic(auto)]
 
 ghost use Rattle.std.specs.Prelude.{◌≡◌, ◌+◌, ◌*◌, ◌<◌, get_or};
-ghost use Rattle.numeric.specs.Fields.{field};
-ghost use Rattle.model.specs.Verdict.{body_length, facts_at};
+ghost use Rattle.model.specs.Verdict.{body_length, field, facts_at};
 ghost use Rattle.decoding.specs.Effects.{unit_of};
 
 use state::record;

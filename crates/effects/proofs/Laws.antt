@@ -8,9 +8,9 @@ use native.Mathlib.Numerals.{add-one}
 use lib.ListN.{take, drop}
 use lib.Seq.{get_or-take}
 use Rattle.numeric.specs.Choice.{pick}
-use Rattle.numeric.specs.Fields.{field}
 use Rattle.state.specs.declared.Branch.{Branch}
 use Rattle.model.specs.Machine.{up_to, most32, store, row_of, row_after}
+use Rattle.model.specs.Verdict.{field}
 use Rattle.effects.specs.Judging.{Judge, judged_in}
 use Rattle.effects.specs.Effects.{Figures, figures, after_effect, offset, after_effects, sound}
 use Rattle.effects.specs.Steps.{Taking, next_in}

@@ -8,10 +8,10 @@ use native.Mathlib.Omega.{arith}
 use lib.Dec.{T, eqb}
 use lib.ListN.{get_or}
 use Rattle.numeric.specs.Choice.{pick, if_eq}
-use Rattle.numeric.specs.Fields.{field}
 use Rattle.numeric.proofs.ChoiceLaws.{eq_case, ne_case, lt_case, ge_case, eq_elim, le_elim, lt_elim}
 use Rattle.state.specs.declared.Branch.{Branch}
 use Rattle.model.specs.Faults.{naming_fault, effect_fault}
+use Rattle.model.specs.Verdict.{field}
 use Rattle.effects.specs.Judging.{Judge}
 use Rattle.effects.specs.Effects.{sound}
 use Rattle.effects.specs.Steps.{Added, Taking, next_in}

@@ -1,11 +1,11 @@
 -- For the proofs. Effects of one outcome, taken one after the other: the machine's steps on what they change. Assumes nothing.
 use Rattle.std.specs.Prelude.{Bool, true, false, List, ℕ, zero, suc, ◌+◌, get_or, drop}
 use Rattle.numeric.specs.Choice.{pick, if_eq, if_lt}
-use Rattle.numeric.specs.Fields.{field}
 use Rattle.state.specs.declared.Branch.{Branch}
 use Rattle.model.specs.Bounds.{most_targets}
 use Rattle.model.specs.Faults.{effect_fault}
 use Rattle.model.specs.Machine.{up_to, most32, store, row_of, row_after}
+use Rattle.model.specs.Verdict.{field}
 use Rattle.effects.specs.Judging.{Judge, judged_in}
 
 -- the least target that the next effect may name, the effects so far that no rule judged, and the figures of the targets

@@ -1,10 +1,10 @@
 -- For the proofs. The judged chance of an effect, by any function that judges. Assumes nothing.
 use Rattle.std.specs.Prelude.{List, ℕ}
-use Rattle.numeric.specs.Fields.{field}
 use Rattle.terms.specs.declared.Judged.{Judged}
 use Rattle.terms.specs.declared.Target.{Target}
 use Rattle.model.specs.Bounds.{most_targets}
 use Rattle.model.specs.Machine.{fetch, unpacked_facts}
+use Rattle.model.specs.Verdict.{field}
 
 -- by the target, the outcome's kind, the intensity and the duration
 abbrev pub Judge : Type 0

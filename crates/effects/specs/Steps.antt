@@ -1,10 +1,10 @@
 -- For the proofs. What one effect leaves of the figures of the targets. Assumes nothing.
 use Rattle.std.specs.Prelude.{◌≡◌, true, false, List, ℕ, ◌+◌}
 use Rattle.numeric.specs.Choice.{pick}
-use Rattle.numeric.specs.Fields.{field}
 use Rattle.state.specs.declared.Branch.{Branch}
 use Rattle.model.specs.Bounds.{most_targets}
 use Rattle.model.specs.Machine.{store, row_of, row_after}
+use Rattle.model.specs.Verdict.{field}
 use Rattle.effects.specs.Judging.{Judge, effect_at}
 use Rattle.effects.specs.Effects.{sound}
 

@@ -1,9 +1,9 @@
 -- For the proofs. How the effects of a run are timed, and how far the run goes: effects of one kind and one unit, with the first of them. Assumes nothing.
 use Rattle.std.specs.Prelude.{Bool, true, false, List, ℕ, get_or, drop}
 use Rattle.numeric.specs.Choice.{if_eq, if_lt}
-use Rattle.numeric.specs.Fields.{field}
 use Rattle.terms.specs.Terms.{seconds_unit, tenths_unit, clock_of}
 use Rattle.model.specs.Format.{effect_kind, timed_kind}
+use Rattle.model.specs.Verdict.{field}
 use Rattle.effects.specs.declared.Timing.{Timing}
 use Rattle.effects.specs.Effects.{offset, leading}
 

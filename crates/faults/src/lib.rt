@@ -3,9 +3,9 @@
 
 ghost use Rattle.std.specs.Prelude.{◌≡◌};
 ghost use Rattle.numeric.specs.Choice.{if_eq, if_lt};
-ghost use Rattle.numeric.specs.Fields.{field};
 ghost use Rattle.terms.specs.Terms.{tenths_unit};
 ghost use Rattle.model.specs.Faults.{order_fault, naming_fault, effect_fault, closing_fault};
+ghost use Rattle.model.specs.Verdict.{field};
 ghost use Rattle.decoding.specs.Effects.{unit_of};
 
 use state::{Core, record};

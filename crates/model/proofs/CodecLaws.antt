@@ -9,12 +9,11 @@ use lib.ListN.{length, get_or, take, drop, get_or-append}
 use lib.Seq.{drop-cons, take-add, take_all, get_or-append-add}
 use lib.Arith.{digits_lt, digits_div, digits_mod, mod-mul}
 use Rattle.numeric.specs.Choice.{if_eq}
-use Rattle.numeric.specs.Fields.{field}
 use Rattle.numeric.proofs.ChoiceLaws.{ne_case, eq_both}
 use Rattle.model.specs.Content.{given, on_curve, described, in_seconds, timed}
 use Rattle.model.specs.Format.{Record, opening_rec, target_rec, leak_rec, branching_rec, outcome_rec, effect_rec, closing_rec, bytes, encode}
 use Rattle.model.specs.Calls.{Bytes}
-use Rattle.model.specs.Verdict.{body_length, decode}
+use Rattle.model.specs.Verdict.{body_length, field, decode}
 use Rattle.model.proofs.ListLaws.{each_append}
 use Rattle.model.proofs.Accepts.{Fits, WholeBytes}
 

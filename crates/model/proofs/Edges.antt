@@ -8,7 +8,6 @@ use native.Mathlib.Omega.{arith}
 use Rattle.numeric.specs.Choice.{if_eq, if_le, if_lt}
 use Rattle.numeric.specs.Share.{share_of, split_of}
 use Rattle.numeric.specs.Greatest.{greatest}
-use Rattle.numeric.specs.Fields.{field}
 use Rattle.log2.specs.Logarithm.{logarithm}
 use Rattle.probit.specs.Table.{probit_table}
 use Rattle.probit.specs.Chance.{greatest_chance, chance_of}
@@ -25,7 +24,7 @@ use Rattle.model.specs.Outcomes.{tree_outcomes, scenario_outcomes, outcomes_of}
 use Rattle.model.specs.Faults.{order_fault, target_fault, leak_fault, chance_fault, branching_fault, outcome_fault, naming_fault, effect_fault, unit_fault, closing_fault, own_fault, fault, context_after}
 use Rattle.model.specs.Report.{judgement, kind_total, over_effects, unjudged_of, sum_at, margin_at, exact_at, grade_of, listed_at, domino_of}
 use Rattle.model.specs.MeaningTheorems.{Near}
-use Rattle.model.specs.Verdict.{body_length, decode, cut_first, cut, parts_of, content_of, judge_left, judge, verdict}
+use Rattle.model.specs.Verdict.{body_length, field, decode, cut_first, cut, parts_of, content_of, judge_left, judge, verdict}
 use Rattle.model.specs.Calls.{totals_of, target_report_of, front, piece_number, piece_answer, totals_answer, target_answer, domino_answer, answer, Callable}
 use Rattle.model.specs.Instances.{Shown, specimen, shown_of}
 use Rattle.model.specs.Edges.{stands, all_stand, chances, fatalities, damages, spheres, timings, ignitions, edges, calls, EdgesStand, MarginIsStrict, BytesTo255}

@@ -1,7 +1,6 @@
 -- To be believed. What the desk says of bytes: 01, "Numbers the desk says no with". It goes by the records that the kinds' lengths cut. Assumes nothing.
-use Rattle.std.specs.Prelude.{List, [], ◌∷◌, ◌++◌, ℕ, zero, suc, ◌+◌, length, get_or, take, drop}
+use Rattle.std.specs.Prelude.{List, [], ◌∷◌, ◌++◌, ℕ, zero, suc, ◌+◌, ◌*◌, length, get_or, take, drop}
 use Rattle.numeric.specs.Choice.{if_eq, if_le}
-use Rattle.numeric.specs.Fields.{field}
 use Rattle.terms.specs.declared.Target.{Target as Facts}
 use Rattle.model.specs.Content.{given, on_curve, Target, described, Effect, in_seconds, timed, Tree, outcome, branching, Scenario, Content}
 use Rattle.model.specs.Format.{opening_kind, target_kind, leak_kind, branching_kind, outcome_kind, effect_kind, closing_kind, timed_kind, curve_kind, Record, opening_rec, target_rec, leak_rec, branching_rec, outcome_rec, effect_rec, closing_rec}
@@ -19,6 +18,11 @@ body_length k =
     (if_eq k closing_kind 12
     (if_eq k timed_kind 9
     (if_eq k curve_kind 5 0))))))))
+
+-- the number in n bytes from a place on, the most significant first
+unfoldable pub field : List ℕ → ℕ → ℕ → ℕ
+field l i zero = 0
+field l i (suc n) = field l i n * 256 + get_or l (i + n) 0
 
 -- the record that some bytes are, kind byte first
 abbrev pub facts_at : List ℕ → Facts

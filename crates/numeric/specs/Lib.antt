@@ -1,4 +1,3 @@
 pub mod Choice
 pub mod Share
 pub mod Greatest
-pub mod Fields

@@ -9,7 +9,6 @@ use native.Mathlib.Omega.{arith}
 use lib.ListN.{length, get_or, drop, replicate, length-drop}
 use lib.Dec.{T}
 use Rattle.numeric.specs.Choice.{pick, if_eq, if_lt}
-use Rattle.numeric.specs.Fields.{field}
 use Rattle.numeric.proofs.ChoiceLaws.{eq_case, ne_case, lt_case, ge_case, gt_case, eq_first, eq_second, le_second, lt_first, eq_elim, lt_elim}
 use Rattle.terms.specs.Terms.{clock_of}
 use Rattle.terms.specs.declared.Clock.{Clock}
@@ -19,7 +18,7 @@ use Rattle.model.specs.Bounds.{most_records}
 use Rattle.model.specs.Content.{clock}
 use Rattle.model.specs.Format.{effect_rec}
 use Rattle.model.specs.Faults.{order_fault, effect_fault, unit_fault, own_fault}
-use Rattle.model.specs.Verdict.{body_length, decode}
+use Rattle.model.specs.Verdict.{body_length, field, decode}
 use Rattle.model.specs.Machine.{State, state, core, up_to, most32, most64, taken, one_record, effect_branch, effect_tally, row_after, accepted, effect_state, record_read}
 use Rattle.counting.specs.Kinds.{with_kinds}
 use Rattle.decoding.specs.Effects.{unit_of, effect_of}

@@ -1,10 +1,9 @@
 // The fault of a record where a study's bounds are compared (document 01, "Numbers the desk says no with"); 0 is none.
 ghost use Rattle.std.specs.Prelude.{◌≡◌, ltb};
-ghost use Rattle.numeric.specs.Fields.{field};
 ghost use Rattle.model.specs.Bounds.{most_above};
 ghost use Rattle.model.specs.Content.{given, on_curve};
 ghost use Rattle.model.specs.Faults.{target_fault, leak_fault, chance_fault, branching_fault, outcome_fault};
-ghost use Rattle.model.specs.Verdict.{facts_at};
+ghost use Rattle.model.specs.Verdict.{field, facts_at};
 ghost use Rattle.model.specs.Machine.{top, above_of};
 ghost use Rattle.study.specs.Placing.{place_fault};
 

@@ -1,9 +1,8 @@
 // A record that has been entered is read: taken, or refused at its first byte.
 ghost use Rattle.std.specs.Prelude.{◌≡◌, false, List, ℕ, ◌+◌, ◌<◌, ◌≤◌, get_or};
-ghost use Rattle.numeric.specs.Fields.{field};
 ghost use Rattle.model.specs.Content.{given, on_curve, described};
 ghost use Rattle.model.specs.Format.{opening_rec, target_rec, leak_rec, branching_rec, outcome_rec, closing_rec};
-ghost use Rattle.model.specs.Verdict.{body_length, decode, facts_at};
+ghost use Rattle.model.specs.Verdict.{body_length, field, decode, facts_at};
 ghost use Rattle.model.specs.Machine.{state, core, refused_with, record_read};
 ghost use Rattle.counting.specs.Kinds.{with_kinds};
 ghost use Rattle.study.specs.Spans.{of_scenario, length_of};

@@ -6,7 +6,6 @@ use Prim.Native.Nat.{ℕ, ◌-◌, ◌*◌, ◌<◌, ◌≤◌}
 use native.Mathlib.Omega.{arith}
 use lib.ListN.{drop}
 use Rattle.numeric.specs.Choice.{if_eq}
-use Rattle.numeric.specs.Fields.{field}
 use Rattle.numeric.proofs.ChoiceLaws.{eq_case, ne_case, lt_case, ge_case}
 use Rattle.effects.specs.Effects.{offset}
 use Rattle.effects.specs.Timings.{with_unit}
@@ -15,6 +14,7 @@ use Rattle.effects.proofs.LeadingLaws.{Leads, passes_more, leading_only}
 use borrow.Author.Rules.{rules}
 use Rattle.effects.proofs.with_unit.Invariants.{has}
 use Rattle.effects.proofs.with_unit.Goals as goal
+use Rattle.model.specs.Verdict.{field}
 
 -- the byte that is read
 read_is : (l : List ℕ) (n x : ℕ) → x ≡ field (window l (n * 10)) 9 1 → field (drop (offset 10 n) l) 9 1 ≡ x

@@ -6,7 +6,6 @@ use Prim.Native.Nat.{ℕ, ◌-◌, ◌*◌, ◌<◌, ◌≤◌}
 use native.Mathlib.Omega.{arith}
 use lib.ListN.{drop}
 use Rattle.numeric.specs.Choice.{if_eq}
-use Rattle.numeric.specs.Fields.{field}
 use Rattle.numeric.proofs.ChoiceLaws.{eq_case, ne_case, lt_case, ge_case}
 use Rattle.effects.specs.Effects.{offset}
 use Rattle.effects.specs.Timings.{with_unit}
@@ -14,6 +13,7 @@ use Rattle.effects.proofs.Laws.{window, offset_tens, unit_at}
 use Rattle.effects.proofs.LeadingLaws.{Leads, passes_more, leading_only}
 use borrow.Author.Rules.{rules}
 use Rattle.effects.proofs.with_unit.Given as goal
+use Rattle.model.specs.Verdict.{field}
 
 -- whether the effect of a number has the unit
 abbrev pub has : ℕ → List ℕ → ℕ → Bool

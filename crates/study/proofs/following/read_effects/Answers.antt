@@ -6,11 +6,10 @@ use Prim.Native.Nat.{ℕ, ◌+◌, ◌-◌, ◌/◌, ◌<◌, ◌≤◌, min}
 use native.Mathlib.Omega.{arith}
 use lib.ListN.{length, replicate}
 use Rattle.numeric.specs.Choice.{if_lt}
-use Rattle.numeric.specs.Fields.{field}
 use Rattle.state.specs.declared.Core.{Core}
 use Rattle.model.specs.Content.{target_of, intensity, duration}
 use Rattle.model.specs.Format.{effect_rec}
-use Rattle.model.specs.Verdict.{decode}
+use Rattle.model.specs.Verdict.{field, decode}
 use Rattle.model.specs.Faults.{effect_fault, unit_fault, own_fault}
 use Rattle.model.specs.Machine.{state, with_reading}
 use Rattle.counting.specs.Kinds.{with_kinds}

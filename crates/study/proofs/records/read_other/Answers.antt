@@ -5,10 +5,9 @@ use mathlib.Core.List.{List}
 use Prim.Native.Nat.{ℕ}
 use lib.ListN.{get_or}
 use Rattle.model.specs.Format.{closing_rec}
-use Rattle.model.specs.Verdict.{decode}
+use Rattle.model.specs.Verdict.{field, decode}
 use Rattle.decoding.proofs.DecodeLaws.{decode_opening, decode_target, decode_closing}
 use Rattle.numeric.specs.Choice.{if_eq}
-use Rattle.numeric.specs.Fields.{field}
 use Rattle.study.specs.Spans.{of_scenario}
 use Rattle.study.proofs.SpanLaws.{length_at, other_kinds}
 use Rattle.study.proofs.KindTotalLaws.{Other, other_read}
