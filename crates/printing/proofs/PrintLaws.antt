@@ -28,7 +28,7 @@ use Rattle.study.proofs.RunLaws.{ran_state, piece_read}
 use Rattle.lines.specs.Text.{refused_line, target_line}
 use Rattle.printing.specs.Report.{target_lines, closed_lines}
 use Rattle.printing.specs.Lines.{lines_of, report_lines}
-use Rattle.printing.specs.Prints.{TakenAfter, nothing, last, refusal_line, Printed, Prints, Readable, EveryListRead}
+use Rattle.printing.specs.Prints.{TakenAfter, nothing, last, refusal_line, Prints, EveryListRead}
 use Rattle.printing.proofs.ListLaws.{lines_closed, lines_refused, report_seven, report_other}
 
 -- targets with the same reports have the same lines

@@ -1,3 +1,4 @@
+-- `lines::kind_line` meets its contract. Assumes nothing.
 use Rattle.std.proofs.Common.{lit≤, rules}
 use Rattle.lines.specs.Text.{kind_word, space_word, kind_line}
 use Rattle.lines.proofs.LineLaws.{two_figures}

@@ -1,3 +1,4 @@
+-- `lines::refused_line` meets its contract. Assumes nothing.
 use Rattle.std.proofs.Common.{lit≤, rules}
 use Rattle.lines.specs.Text.{refused_word, at_word, refused_line}
 use Rattle.lines.proofs.LineLaws.{two_figures}

@@ -1,3 +1,4 @@
+-- `lines::study_line` meets its contract. Assumes nothing.
 use Rattle.std.proofs.Common.{lit≤, rules}
 use Rattle.lines.specs.Text.{study_word, records_word, leaks_word, study_line}
 use Rattle.lines.proofs.LineLaws.{three_figures}

@@ -1,3 +1,4 @@
+-- `lines::target_line` meets its contract. Assumes nothing.
 use Rattle.std.proofs.Common.{lit≤, rules}
 use Rattle.lines.specs.Text.{target_word, sum_word, margin_word, target_line}
 use Rattle.lines.proofs.LineLaws.{three_judged}

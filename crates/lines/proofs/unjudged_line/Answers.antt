@@ -1,3 +1,4 @@
+-- `lines::unjudged_line` meets its contract. Assumes nothing.
 use Rattle.std.proofs.Common.{lit≤, rules}
 use Rattle.lines.specs.Text.{unjudged_word, unjudged_line}
 use Rattle.lines.proofs.LineLaws.{one_figure}

@@ -1,3 +1,4 @@
+-- `lines::with_word` meets its contract. Assumes nothing.
 use Rattle.std.proofs.Common.{◌≡◌, length, arith, rules}
 use Rattle.lines.proofs.LineLaws.{copy_turn}
 use Rattle.lines.proofs.with_word.Goals as goal

@@ -1,3 +1,4 @@
+-- `lines::Line::judged` meets its contract. Assumes nothing.
 use Rattle.std.proofs.Common.{rules}
 use Rattle.numeric.proofs.ChoiceLaws.{eq_case, ne_case}
 use Rattle.lines.proofs.Line.judged.Goals as goal

@@ -1,3 +1,4 @@
+-- `lines::Line::put` meets its contract. Assumes nothing.
 use Rattle.std.proofs.Common.{◌≡◌, ◌∙◌, length, rules}
 use Rattle.lines.specs.Text.{text_of}
 use Rattle.lines.proofs.LineLaws.{put_count, put_list, short_count, short_list}

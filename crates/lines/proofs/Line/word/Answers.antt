@@ -1,3 +1,4 @@
+-- `lines::Line::word` meets its contract. Assumes nothing.
 use Rattle.std.proofs.Common.{◌≡◌, ◌+◌, ℕ, List, length, take, ap, ◌∙◌, rules}
 use Rattle.lines.specs.Text.{text_of}
 use Rattle.lines.proofs.LineLaws.{word_fits, word_left}
