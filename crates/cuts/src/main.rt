@@ -86,9 +86,10 @@ fn compare_file<R: io::Read>(
     name: &str,
 ) -> io::Result<()> {
     let mut bytes = [0u8; 65536];
-    match file::read_file(file, &mut bytes) {
-        Ok(r) => compare(rt, name, &bytes[..r.count]),
-        Err(why) => {
+    let r = file::read_file(file, &mut bytes);
+    match r.failed {
+        None => compare(rt, name, &bytes[..r.count]),
+        Some(why) => {
             files::fail(rt, name, why);
             Ok(())
         }

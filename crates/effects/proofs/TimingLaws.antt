@@ -7,14 +7,14 @@ use native.Mathlib.Decide.{ℕ_discrete}
 use native.Mathlib.Omega.{arith}
 use lib.Dec.{T}
 use lib.ListN.{get_or, drop}
-use Rattle.numeric.specs.Choice.{if_eq, if_lt}
+use Rattle.numeric.specs.Choice.{if_eq}
 use Rattle.numeric.proofs.ChoiceLaws.{eq_case, ne_case, ge_case, eq_both, lt_both, eq_first, lt_elim}
 use Rattle.terms.specs.Terms.{clock_of}
 use Rattle.decoding.specs.Effects.{unit_of}
 use Rattle.effects.specs.declared.Timing.{Timing}
 use Rattle.effects.specs.Effects.{offset, leading}
 use Rattle.effects.specs.Timings.{timing_of, with_unit, alike_of}
-use Rattle.effects.proofs.LeadingLaws.{Leads, leading_is}
+use Rattle.effects.proofs.LeadingLaws.{leading_is}
 use Rattle.model.specs.Verdict.{field}
 
 -- an effect has ten bytes at most

@@ -1,5 +1,5 @@
 -- For the proofs. How the effects of a run are timed, and how far the run goes: effects of one kind and one unit, with the first of them. Assumes nothing.
-use Rattle.std.specs.Prelude.{Bool, true, false, List, ℕ, get_or, drop}
+use Rattle.std.specs.Prelude.{true, false, List, ℕ, get_or, drop}
 use Rattle.numeric.specs.Choice.{if_eq, if_lt}
 use Rattle.terms.specs.Terms.{seconds_unit, tenths_unit, clock_of}
 use Rattle.model.specs.Format.{effect_kind, timed_kind}

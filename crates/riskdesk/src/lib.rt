@@ -1,5 +1,6 @@
 // The study's calls for programs in other languages (include/riskdesk.h), each with the contract that it has in Rattle.
 #![tactic(auto)]
+
 ghost use Rattle.std.specs.Prelude.{◌≡◌};
 ghost use Rattle.model.specs.Calls.{piece, totals, target, domino, took_piece, gave_totals, gave_target, gave_domino};
 ghost use Rattle.model.specs.Machine.{fresh};

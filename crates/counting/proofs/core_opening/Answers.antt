@@ -1,6 +1,5 @@
 -- `counting::core_opening` meets its contract. Assumes nothing.
 use mathlib.Core.Path.{refl}
-use borrow.Author.Rules.{rules}
 use Rattle.counting.proofs.core_opening.Goals as goal
 
 pub returns : goal.returns

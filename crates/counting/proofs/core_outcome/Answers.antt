@@ -2,7 +2,6 @@
 use mathlib.Core.Path.{refl}
 use native.Mathlib.Omega.{arith}
 use Rattle.model.specs.Machine.{outcome_tally}
-use borrow.Author.Rules.{rules}
 use Rattle.counting.proofs.core_outcome.Goals as goal
 
 pub returns : goal.returns

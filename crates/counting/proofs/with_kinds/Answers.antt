@@ -1,6 +1,5 @@
 -- `counting::with_kinds` meets its contract. Assumes nothing.
 use mathlib.Core.Path.{refl}
-use borrow.Author.Rules.{rules}
 use Rattle.counting.proofs.with_kinds.Goals as goal
 
 pub returns : goal.returns

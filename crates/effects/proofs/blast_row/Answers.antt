@@ -5,7 +5,6 @@ use native.Mathlib.Omega.{arith}
 use Rattle.terms.specs.Terms.{judged_as}
 use Rattle.vulnerability.proofs.FormLaws.{blast_judged, without_effect}
 use Rattle.effects.proofs.RowLaws.{added, spared}
-use borrow.Author.Rules.{rules}
 use Rattle.effects.proofs.blast_row.Goals as goal
 
 pub returns-then-b-eq-EXPLOSION : goal.returns-then-b-eq-EXPLOSION

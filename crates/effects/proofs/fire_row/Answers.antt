@@ -1,7 +1,7 @@
 -- `effects::fire_row` meets its contract, class by class. Assumes nothing.
 use mathlib.Core.Path.{◌≡◌, refl, sym, ◌∙◌, ap}
 use mathlib.Core.Bool.{false}
-use Prim.Native.Nat.{ℕ, ◌<◌}
+use Prim.Native.Nat.{ℕ}
 use native.Mathlib.Omega.{arith}
 use Rattle.terms.specs.declared.Judged.{Judged}
 use Rattle.terms.specs.Terms.{judged_as, unjudged}
@@ -9,7 +9,6 @@ use Rattle.equipment.specs.Damage.{fire_judged}
 use Rattle.equipment.proofs.FireLaws.{unjudged_class, burning_judged, above_two, beyond_classes}
 use Rattle.vulnerability.proofs.FormLaws.{fires_alike, fire_judged_lem, unjudged_fire, sphere_fire, no_class}
 use Rattle.effects.proofs.RowLaws.{added, spared}
-use borrow.Author.Rules.{rules}
 use Rattle.effects.proofs.fire_row.Goals as goal
 
 -- no place of people is unjudged

@@ -3,7 +3,6 @@ use mathlib.Core.Path.{sym, ◌∙◌}
 use native.Mathlib.Omega.{arith}
 use Rattle.vulnerability.proofs.FormLaws.{people_judged}
 use Rattle.effects.proofs.StepLaws.{Read, row_of, next_row, taking_row, next_past, taking_past}
-use borrow.Author.Rules.{rules}
 use Rattle.effects.proofs.flash.Goals as goal
 
 pub flash_row-requires : goal.flash_row-requires

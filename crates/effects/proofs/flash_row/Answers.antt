@@ -5,7 +5,6 @@ use native.Mathlib.Omega.{arith}
 use Rattle.terms.specs.Terms.{judged_as}
 use Rattle.vulnerability.proofs.FormLaws.{judged_of, people_flash, equipment_spared}
 use Rattle.effects.proofs.RowLaws.{added, spared}
-use borrow.Author.Rules.{rules}
 use Rattle.effects.proofs.flash_row.Goals as goal
 
 pub returns-then-target-eq-PEOPLE : goal.returns-then-target-eq-PEOPLE

@@ -1,7 +1,6 @@
 -- `effects::past_rows` meets its contract. Assumes nothing.
 use mathlib.Core.Path.{refl, sym, ◌∙◌}
 use Rattle.numeric.proofs.ChoiceLaws.{eq_case, ne_case}
-use borrow.Author.Rules.{rules}
 use Rattle.effects.proofs.past_rows.Goals as goal
 
 pub returns-then-effect_fault-eq0 : goal.returns-then-effect_fault-eq0

@@ -1,9 +1,8 @@
 -- `effects::run_of` meets its contract, by the kind of the first effect. Assumes nothing.
-use mathlib.Core.Path.{◌≡◌, refl, sym, ◌∙◌}
+use mathlib.Core.Path.{◌≡◌, sym, ◌∙◌}
 use native.Mathlib.Omega.{arith}
 use lib.ListN.{get_or}
 use Rattle.effects.proofs.TimingLaws.{timing_eight, timing_six, alike_eight, alike_six}
-use borrow.Author.Rules.{rules}
 use Rattle.effects.proofs.run_of.Goals as goal
 
 pub with_unit-alike-requires : goal.with_unit-alike-requires

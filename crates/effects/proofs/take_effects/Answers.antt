@@ -4,18 +4,17 @@ use mathlib.Core.Bool.{Bool, true, false}
 use mathlib.Core.List.{List}
 use Prim.Native.Nat.{ℕ, ◌+◌, ◌-◌, ◌/◌, ◌<◌, ◌≤◌, min}
 use native.Mathlib.Omega.{arith}
-use lib.ListN.{length, drop}
+use lib.ListN.{length}
 use Rattle.terms.specs.declared.Clock.{Clock}
 use Rattle.state.specs.declared.Branch.{Branch}
 use Rattle.model.specs.Machine.{up_to, most32}
 use Rattle.vulnerability.specs.Effect.{effect_on}
 use Rattle.effects.specs.declared.Timing.{Timing}
-use Rattle.effects.specs.Effects.{Figures, figures, offset, after_effects, sound}
+use Rattle.effects.specs.Effects.{Figures, offset, after_effects, sound}
 use Rattle.effects.specs.Timings.{timing_of, alike_of}
 use Rattle.effects.proofs.Laws.{window, effects_none, effects_next, offset_none, offset_more, offset_most, step_sound, step_unsound, step_parts, step_left, sound_at_lem, more_missed}
-use Rattle.effects.proofs.LeadingLaws.{Leads, passes_more, leading_only}
+use Rattle.effects.proofs.LeadingLaws.{passes_more, leading_only}
 use Rattle.effects.proofs.TimingLaws.{length_most, alike_most, top_most}
-use borrow.Author.Rules.{rules}
 use Rattle.effects.proofs.take_effects.Invariants.{sound_at}
 use Rattle.effects.proofs.take_effects.Goals as goal
 

@@ -1,21 +1,14 @@
 -- `effects::take_effects` meets its contract: each turn takes an effect more. Assumes nothing.
-use mathlib.Core.Path.{◌≡◌, refl, sym, ◌∙◌, ap}
-use mathlib.Core.Bool.{Bool, true, false}
+use mathlib.Core.Path.{◌≡◌}
+use mathlib.Core.Bool.{Bool, true}
 use mathlib.Core.List.{List}
-use Prim.Native.Nat.{ℕ, ◌+◌, ◌-◌, ◌/◌, ◌<◌, ◌≤◌, min}
-use native.Mathlib.Omega.{arith}
-use lib.ListN.{length, drop}
+use Prim.Native.Nat.{ℕ, ◌-◌, ◌<◌, ◌≤◌}
+use lib.ListN.{drop}
 use Rattle.terms.specs.declared.Clock.{Clock}
 use Rattle.state.specs.declared.Branch.{Branch}
 use Rattle.model.specs.Machine.{up_to, most32}
 use Rattle.vulnerability.specs.Effect.{effect_on}
-use Rattle.effects.specs.declared.Timing.{Timing}
 use Rattle.effects.specs.Effects.{Figures, figures, offset, after_effects, sound}
-use Rattle.effects.specs.Timings.{timing_of, alike_of}
-use Rattle.effects.proofs.Laws.{window, effects_none, effects_next, offset_none, offset_more, offset_most, step_sound, step_unsound, step_parts, step_left, sound_at_lem, more_missed}
-use Rattle.effects.proofs.LeadingLaws.{Leads, passes_more, leading_only}
-use Rattle.effects.proofs.TimingLaws.{length_most, alike_most, top_most}
-use borrow.Author.Rules.{rules}
 use Rattle.effects.proofs.take_effects.Given as goal
 
 -- whether the effect of a number is sound

@@ -5,7 +5,6 @@ use Prim.Native.Nat.{ℕ, ◌<◌}
 use lib.ListN.{get_or}
 use native.Mathlib.Omega.{arith}
 use Rattle.effects.proofs.StepLaws.{next_none, taking_none}
-use borrow.Author.Rules.{rules}
 use Rattle.effects.proofs.take_one.Goals as goal
 
 -- neither a fire nor a flash fire

@@ -1,17 +1,11 @@
 -- `effects::with_unit` meets its contract: each turn finds one more. Assumes nothing.
-use mathlib.Core.Path.{◌≡◌, refl, sym, ◌∙◌}
+use mathlib.Core.Path.{◌≡◌}
 use mathlib.Core.Bool.{Bool, true, false}
 use mathlib.Core.List.{List}
-use Prim.Native.Nat.{ℕ, ◌-◌, ◌*◌, ◌<◌, ◌≤◌}
-use native.Mathlib.Omega.{arith}
+use Prim.Native.Nat.{ℕ, ◌-◌, ◌<◌, ◌≤◌}
 use lib.ListN.{drop}
 use Rattle.numeric.specs.Choice.{if_eq}
-use Rattle.numeric.proofs.ChoiceLaws.{eq_case, ne_case, lt_case, ge_case}
 use Rattle.effects.specs.Effects.{offset}
-use Rattle.effects.specs.Timings.{with_unit}
-use Rattle.effects.proofs.Laws.{window, offset_tens, unit_at}
-use Rattle.effects.proofs.LeadingLaws.{Leads, passes_more, leading_only}
-use borrow.Author.Rules.{rules}
 use Rattle.effects.proofs.with_unit.Given as goal
 use Rattle.model.specs.Verdict.{field}
 

@@ -1,7 +1,6 @@
 -- `reading::grow` meets its contract. Assumes nothing.
 use mathlib.Core.Path.{refl}
 use Rattle.model.specs.Machine.{grown}
-use borrow.Author.Rules.{rules}
 use Rattle.reading.proofs.grow.Goals as goal
 
 pub returns : goal.returns

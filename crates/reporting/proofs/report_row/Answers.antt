@@ -1,7 +1,6 @@
 -- `reporting::report_row` meets its contract. Assumes nothing.
 use mathlib.Core.Path.{refl}
 use Rattle.model.specs.Machine.{row_report}
-use borrow.Author.Rules.{rules}
 use Rattle.reporting.proofs.report_row.Goals as goal
 
 pub returns : goal.returns

@@ -1,7 +1,6 @@
 -- `rows::pack_facts` meets its contract. Assumes nothing.
 use mathlib.Core.Path.{refl}
 use Rattle.model.specs.Machine.{packed_facts}
-use borrow.Author.Rules.{rules}
 use Rattle.rows.proofs.pack_facts.Goals as goal
 
 pub returns : goal.returns

@@ -1,7 +1,6 @@
 -- `rows::unpack_facts` meets its contract. Assumes nothing.
 use mathlib.Core.Path.{refl}
 use Rattle.model.specs.Machine.{unpacked_facts}
-use borrow.Author.Rules.{rules}
 use Rattle.rows.proofs.unpack_facts.Goals as goal
 
 pub returns : goal.returns

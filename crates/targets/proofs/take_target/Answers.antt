@@ -1,6 +1,5 @@
 -- `targets::take_target` meets its contract. Assumes nothing.
 use mathlib.Core.Path.{refl}
-use borrow.Author.Rules.{rules}
 use Rattle.targets.proofs.take_target.Goals as goal
 
 pub returns : goal.returns

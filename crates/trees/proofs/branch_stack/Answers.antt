@@ -1,7 +1,6 @@
 -- `trees::branch_stack` meets its contract. Assumes nothing.
 use mathlib.Core.Path.{refl}
 use Rattle.model.specs.Machine.{branch_stack}
-use borrow.Author.Rules.{rules}
 use Rattle.trees.proofs.branch_stack.Goals as goal
 
 pub returns : goal.returns

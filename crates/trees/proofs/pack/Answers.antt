@@ -1,7 +1,6 @@
 -- `trees::pack` meets its contract: below 2^60 nothing is lost. Assumes nothing.
 use native.Mathlib.Omega.{arith}
 use Rattle.model.specs.Machine.{packed}
-use borrow.Author.Rules.{rules}
 use Rattle.trees.proofs.pack.Goals as goal
 
 pub returns-then-frequency-lt1152921504606846976 : goal.returns-then-frequency-lt1152921504606846976

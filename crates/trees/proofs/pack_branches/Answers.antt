@@ -1,6 +1,5 @@
 -- `trees::pack_branches` meets its contract. Assumes nothing.
 use mathlib.Core.Path.{refl}
-use borrow.Author.Rules.{rules}
 use Rattle.trees.proofs.pack_branches.Goals as goal
 
 pub returns : goal.returns

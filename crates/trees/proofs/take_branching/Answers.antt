@@ -1,5 +1,4 @@
 -- `trees::take_branching` meets its contract. Assumes nothing.
-use borrow.Author.Rules.{rules}
 use Rattle.trees.proofs.take_branching.Goals as goal
 
 pub returns : goal.returns

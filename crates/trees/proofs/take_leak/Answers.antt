@@ -1,7 +1,6 @@
 -- `trees::take_leak` meets its contract. Assumes nothing.
 use mathlib.Core.Path.{refl}
 use Rattle.model.specs.Machine.{leak_stack}
-use borrow.Author.Rules.{rules}
 use Rattle.trees.proofs.take_leak.Goals as goal
 
 pub returns : goal.returns

@@ -1,7 +1,6 @@
 -- `counting::branches::enter_branching` meets its contract. Assumes nothing.
 use mathlib.Core.Path.{refl}
 use Rattle.model.specs.Machine.{branched_branch}
-use borrow.Author.Rules.{rules}
 use Rattle.counting.proofs.branches.enter_branching.Goals as goal
 
 pub returns : goal.returns

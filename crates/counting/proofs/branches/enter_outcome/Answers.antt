@@ -1,7 +1,6 @@
 -- `counting::branches::enter_outcome` meets its contract. Assumes nothing.
 use mathlib.Core.Path.{refl}
 use Rattle.model.specs.Machine.{outcome_branch}
-use borrow.Author.Rules.{rules}
 use Rattle.counting.proofs.branches.enter_outcome.Goals as goal
 
 pub returns : goal.returns

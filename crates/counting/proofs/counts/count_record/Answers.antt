@@ -1,7 +1,6 @@
 -- `counting::counts::count_record` meets its contract. Assumes nothing.
 use mathlib.Core.Path.{refl}
 use Rattle.model.specs.Machine.{one_record}
-use borrow.Author.Rules.{rules}
 use Rattle.counting.proofs.counts.count_record.Goals as goal
 
 pub returns : goal.returns

@@ -1,7 +1,6 @@
 -- `counting::tallies::grow_kind` meets its contract. Assumes nothing.
 use native.Mathlib.Omega.{arith}
 use Rattle.counting.proofs.KindTotalLaws.{kind_set, kind_none}
-use borrow.Author.Rules.{rules}
 use Rattle.counting.proofs.tallies.grow_kind.Goals as goal
 
 pub returns-then-i-six : goal.returns-then-i-six

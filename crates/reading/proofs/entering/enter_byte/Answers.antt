@@ -2,7 +2,6 @@
 use mathlib.Core.Path.{refl, ◌∙◌}
 use Rattle.numeric.proofs.ChoiceLaws.{eq_case, ne_case}
 use Rattle.reading.specs.Entering.{reading_with, pending_with, whole_with}
-use borrow.Author.Rules.{rules}
 use Rattle.reading.proofs.EnterLaws.{core_with, entered}
 use Rattle.reading.proofs.entering.enter_byte.Goals as goal
 

@@ -2,7 +2,6 @@
 use mathlib.Core.Path.{refl}
 use Rattle.numeric.proofs.ChoiceLaws.{gt_case, le_case}
 use Rattle.reading.specs.Entering.{whole_in}
-use borrow.Author.Rules.{rules}
 use Rattle.reading.proofs.entering.enter_more.Goals as goal
 
 pub returns-then-body_length-one_less : goal.returns-then-body_length-one_less

@@ -3,7 +3,6 @@ use mathlib.Core.Path.{◌≡◌, refl}
 use Rattle.numeric.specs.Choice.{if_eq}
 use Rattle.numeric.proofs.ChoiceLaws.{eq_case, ne_case}
 use Rattle.reading.specs.Moving.{shifted, moved}
-use borrow.Author.Rules.{rules}
 use Rattle.reading.proofs.moving.moved.Goals as goal
 
 pub returns-then-h-eq-REFUSED : goal.returns-then-h-eq-REFUSED

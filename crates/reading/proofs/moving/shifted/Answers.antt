@@ -1,7 +1,6 @@
 -- `reading::moving::shifted` meets its contract: the first place, or one after it. Assumes nothing.
 use mathlib.Core.Path.{refl}
 use Rattle.numeric.proofs.ChoiceLaws.{eq_case, ne_case}
-use borrow.Author.Rules.{rules}
 use Rattle.reading.proofs.moving.shifted.Goals as goal
 
 pub returns-then-x-eq0 : goal.returns-then-x-eq0

@@ -1,10 +1,8 @@
 -- `reporting::domino::count_marked` meets its contract: after t targets the marked ones below t are counted. Assumes nothing.
 use mathlib.Core.Path.{◌≡◌, sym, ap, ◌∙◌}
-use Prim.Native.Nat.{ℕ, ◌-◌, ◌≤◌}
+use Prim.Native.Nat.{ℕ}
 use native.Mathlib.Omega.{arith}
 use lib.ListN.{length, get_or}
-use borrow.Author.Rules.{rules}
-use Rattle.model.specs.Sums.{numbers_below}
 use Rattle.model.specs.Machine.{mark_of}
 use Rattle.reporting.proofs.MarkLaws.{below_none, count_in, count_out}
 use Rattle.reporting.proofs.domino.count_marked.Goals as goal
@@ -19,7 +17,7 @@ loop-t-preserved c =
     let f = c.args.facts.now in
     let e = c.marked.ensures in
     elim c.if-marked.branch [
-        then-marked w ↦ let h = count_in (λ k. mark_of (get_or f k 0)) v.t (sym e ∙ w.if-marked.true) in (omega arith, omega arith, omega arith)
+      | then-marked w ↦ let h = count_in (λ k. mark_of (get_or f k 0)) v.t (sym e ∙ w.if-marked.true) in (omega arith, omega arith, omega arith)
       | else-marked w ↦ let h = count_out (λ k. mark_of (get_or f k 0)) v.t (sym e ∙ w.if-marked.false) in (omega arith, omega arith, omega arith)
     ]
 

@@ -1,13 +1,9 @@
 -- `reporting::domino::count_marked` meets its contract: after t targets the marked ones below t are counted. Assumes nothing.
-use mathlib.Core.Path.{◌≡◌, sym, ap, ◌∙◌}
-use mathlib.Core.Logic.{⊎_elim}
-use Prim.Native.Nat.{ℕ, ◌-◌, ◌≤◌}
-use native.Mathlib.Omega.{arith}
+use mathlib.Core.Path.{◌≡◌}
+use Prim.Native.Nat.{◌-◌, ◌≤◌}
 use lib.ListN.{length, get_or}
-use borrow.Author.Rules.{rules}
 use Rattle.model.specs.Sums.{numbers_below}
 use Rattle.model.specs.Machine.{mark_of}
-use Rattle.reporting.proofs.MarkLaws.{below_none, count_in, count_out}
 use Rattle.reporting.proofs.domino.count_marked.Given as goal
 
 abbrev pub invariant-loop-t : goal.invariant-loop-t

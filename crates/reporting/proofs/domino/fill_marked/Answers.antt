@@ -2,12 +2,9 @@
 use mathlib.Core.Path.{◌≡◌, sym, ap, ◌∙◌}
 use mathlib.Core.Bool.{Bool}
 use mathlib.Core.List.{List}
-use Prim.Native.Nat.{ℕ, ◌-◌, ◌≤◌}
+use Prim.Native.Nat.{ℕ}
 use native.Mathlib.Omega.{arith}
 use lib.ListN.{length, get_or, set}
-use borrow.Author.Rules.{rules}
-use Rattle.model.specs.Sums.{numbers_below}
-use Rattle.model.specs.Calls.{front}
 use Rattle.model.specs.Machine.{mark_of}
 use Rattle.reporting.proofs.MarkLaws.{below_none, count_in, count_out, front_none, front_in, front_out, front_length, room}
 use Rattle.reporting.proofs.domino.fill_marked.Goals as goal
@@ -45,13 +42,13 @@ loop-t-preserved c =
     let e = c.marked.ensures in
     let l = s.args.list.now in
     elim c.if-marked.branch [
-      then-marked w ↦
-    let h = count_in g v.t (sym e ∙ w.if-marked.true) in
-    let r = room g l s.args.n v.t v.count v.list v.invariant.1 v.invariant.2 s.requires.n_in_bounds (sym e ∙ w.if-marked.true) c.loop-t-test.true in
-    (omega arith, omega arith, w.list-is ∙ ap (λ (x : List ℕ). set x v.count v.t) v.invariant.2 ∙ front_in g l v.t v.count v.invariant.1 (sym e ∙ w.if-marked.true) r.0)
+      | then-marked w ↦
+          let h = count_in g v.t (sym e ∙ w.if-marked.true) in
+          let r = room g l s.args.n v.t v.count v.list v.invariant.1 v.invariant.2 s.requires.n_in_bounds (sym e ∙ w.if-marked.true) c.loop-t-test.true in
+          (omega arith, omega arith, w.list-is ∙ ap (λ (x : List ℕ). set x v.count v.t) v.invariant.2 ∙ front_in g l v.t v.count v.invariant.1 (sym e ∙ w.if-marked.true) r.0)
       | else-marked w ↦
-    let h = count_out g v.t (sym e ∙ w.if-marked.false) in
-    (omega arith, omega arith, w.list-is ∙ v.invariant.2 ∙ front_out g l v.t (sym e ∙ w.if-marked.false))
+          let h = count_out g v.t (sym e ∙ w.if-marked.false) in
+          (omega arith, omega arith, w.list-is ∙ v.invariant.2 ∙ front_out g l v.t (sym e ∙ w.if-marked.false))
     ]
 
 pub shape_of-list : goal.shape_of-list

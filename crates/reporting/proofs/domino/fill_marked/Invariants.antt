@@ -1,16 +1,10 @@
 -- `reporting::domino::fill_marked` meets its contract: after t targets the marked ones below t are at the front of the list. Assumes nothing.
-use mathlib.Core.Path.{◌≡◌, sym, ap, ◌∙◌}
-use mathlib.Core.Bool.{Bool}
-use mathlib.Core.Logic.{⊎_elim}
-use mathlib.Core.List.{List}
-use Prim.Native.Nat.{ℕ, ◌-◌, ◌≤◌}
-use native.Mathlib.Omega.{arith}
-use lib.ListN.{length, get_or, set}
-use borrow.Author.Rules.{rules}
+use mathlib.Core.Path.{◌≡◌}
+use Prim.Native.Nat.{◌-◌, ◌≤◌}
+use lib.ListN.{length, get_or}
 use Rattle.model.specs.Sums.{numbers_below}
 use Rattle.model.specs.Calls.{front}
 use Rattle.model.specs.Machine.{mark_of}
-use Rattle.reporting.proofs.MarkLaws.{below_none, count_in, count_out, front_none, front_in, front_out, front_length, room}
 use Rattle.reporting.proofs.domino.fill_marked.Given as goal
 
 abbrev pub invariant-loop-t : goal.invariant-loop-t

@@ -1,5 +1,4 @@
 -- `study::Study::domino` meets its contract: a study's own lists stand beside the core and the facts. Assumes nothing.
-use borrow.Author.Rules.{rules}
 use Rattle.study.proofs.RunLaws.{domino_called}
 use Rattle.study.proofs.Study.domino.Goals as goal
 

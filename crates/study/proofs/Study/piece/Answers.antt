@@ -1,5 +1,4 @@
 -- `study::Study::piece` meets its contract: the arrays are lent, and the study is made anew of them. Assumes nothing.
-use borrow.Author.Rules.{rules}
 use Rattle.study.proofs.RunLaws.{piece_called}
 use Rattle.study.proofs.Study.piece.Goals as goal
 

@@ -1,5 +1,4 @@
 -- `study::Study::totals` meets its contract. Assumes nothing.
-use borrow.Author.Rules.{rules}
 use Rattle.study.proofs.RunLaws.{totals_called}
 use Rattle.study.proofs.Study.totals.Goals as goal
 

@@ -1,6 +1,5 @@
 -- `study::bounds::own_curve` meets its contract, case by case. Assumes nothing.
 use mathlib.Core.Path.{refl, sym, ◌∙◌}
-use borrow.Author.Rules.{rules}
 use borrow.Author.Tests.{ltb-true, ltb-false}
 use Rattle.numeric.proofs.ChoiceLaws.{ge_case, lt_case}
 use Rattle.model.specs.Faults.{branching_fault}

@@ -1,5 +1,4 @@
 -- `study::bounds::own_target` meets its contract. Assumes nothing.
-use borrow.Author.Rules.{rules}
 use Rattle.study.proofs.bounds.own_target.Goals as goal
 
 pub returns : goal.returns

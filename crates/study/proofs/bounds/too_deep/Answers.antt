@@ -1,6 +1,5 @@
 -- `study::bounds::too_deep` meets its contract. Assumes nothing.
 use mathlib.Core.Path.{refl}
-use borrow.Author.Rules.{rules}
 use Rattle.study.proofs.bounds.too_deep.Goals as goal
 
 pub returns : goal.returns

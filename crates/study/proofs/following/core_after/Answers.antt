@@ -3,7 +3,6 @@ use mathlib.Core.Path.{◌≡◌, refl}
 use native.Mathlib.Omega.{arith}
 use Prim.Native.Nat.{◌+◌}
 use Rattle.model.specs.Machine.{up_to, most32}
-use borrow.Author.Rules.{rules}
 use Rattle.study.proofs.following.core_after.Goals as goal
 
 pub returns : goal.returns

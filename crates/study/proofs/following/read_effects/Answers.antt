@@ -19,14 +19,13 @@ use Rattle.effects.specs.Effects.{Figures, offset, leading}
 use Rattle.effects.specs.Timings.{timing_of, alike_of}
 use Rattle.effects.proofs.Laws.{effects_none, offset_most}
 use Rattle.effects.proofs.LeadingLaws.{Leads, leading_is}
-use Rattle.effects.proofs.TimingLaws.{length_most, alike_most, alike_some}
+use Rattle.effects.proofs.TimingLaws.{length_most, alike_most}
 use Rattle.study.specs.Placing.{place_fault}
 use Rattle.study.specs.Following.{core_after}
 use Rattle.study.proofs.RecordLaws.{place_refused, own_refused}
 use Rattle.study.proofs.SpanLaws.{IsEffect, read_alone, records_alone}
 use Rattle.study.proofs.KindTotalLaws.{Other, other_read}
 use Rattle.study.proofs.FollowLaws.{within_bounds, begin, sound_at, Free, effects_read, unsound_first, with_kinds_lem}
-use borrow.Author.Rules.{rules}
 use Rattle.study.proofs.following.read_effects.Goals as goal
 
 -- how many effects may be taken

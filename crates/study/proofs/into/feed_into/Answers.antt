@@ -1,5 +1,4 @@
 -- `study::into::feed_into` meets its contract: the number and the place are those of the core that is read. Assumes nothing.
-use borrow.Author.Rules.{rules}
 use Rattle.study.proofs.into.feed_into.Goals as goal
 
 pub returns : goal.returns

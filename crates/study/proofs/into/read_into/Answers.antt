@@ -1,12 +1,10 @@
 -- `study::into::read_into` meets its contract: after i bytes the arrays are the machine after the first i bytes. Assumes nothing.
-use mathlib.Core.Path.{◌≡◌, sym, ◌∙◌, ap}
-use Prim.Native.Nat.{ℕ, ◌-◌, ◌≤◌}
+use mathlib.Core.Path.{sym, ◌∙◌, ap}
+use Prim.Native.Nat.{◌-◌}
 use native.Mathlib.Omega.{arith}
-use lib.ListN.{length, take, drop}
-use borrow.Author.Rules.{rules}
+use lib.ListN.{take, drop}
 use Rattle.state.specs.declared.Core.{Core}
-use Rattle.model.specs.Machine.{state, read_all}
-use Rattle.counting.specs.Kinds.{with_kinds}
+use Rattle.model.specs.Machine.{state}
 use Rattle.study.proofs.LoopLaws.{read_none, read_next, read_whole}
 use Rattle.study.proofs.SpanLaws.{stays_wide}
 use Rattle.study.proofs.into.read_into.Goals as goal

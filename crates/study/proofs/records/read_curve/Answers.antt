@@ -5,7 +5,6 @@ use Rattle.model.specs.Faults.{own_fault}
 use Rattle.model.specs.Machine.{accepted, with_reading}
 use Rattle.model.proofs.Follows.{trees_next}
 use Rattle.study.proofs.RecordLaws.{place_refused, own_refused, without_fault}
-use borrow.Author.Rules.{rules}
 use Rattle.study.proofs.records.read_curve.Goals as goal
 
 pub returns-then-misplaced-ne0 : goal.returns-then-misplaced-ne0

@@ -11,7 +11,6 @@ use Rattle.numeric.specs.Choice.{if_eq}
 use Rattle.study.specs.Spans.{of_scenario}
 use Rattle.study.proofs.SpanLaws.{length_at, other_kinds}
 use Rattle.study.proofs.KindTotalLaws.{Other, other_read}
-use borrow.Author.Rules.{rules}
 use Rattle.study.proofs.records.read_other.Goals as goal
 
 pub read_target-after-requires : goal.read_target-after-requires

@@ -6,7 +6,6 @@ use Rattle.model.specs.Machine.{state, accepted, with_reading}
 use Rattle.counting.specs.Kinds.{with_kinds}
 use Rattle.study.specs.Placing.{place_fault}
 use Rattle.study.proofs.RecordLaws.{place_refused, own_refused, without_fault}
-use borrow.Author.Rules.{rules}
 use Rattle.study.proofs.records.read_outcome.Goals as goal
 
 pub returns-then-misplaced-ne0 : goal.returns-then-misplaced-ne0

@@ -1,6 +1,5 @@
 -- `study::records::refused` meets its contract. Assumes nothing.
 use mathlib.Core.Path.{refl}
-use borrow.Author.Rules.{rules}
 use Rattle.study.proofs.records.refused.Goals as goal
 
 pub returns : goal.returns

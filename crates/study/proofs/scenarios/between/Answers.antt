@@ -1,7 +1,6 @@
 -- `study::scenarios::between` meets its contract, case by case. Assumes nothing.
 use mathlib.Core.Path.{subst, sym}
 use lib.Dec.{T}
-use borrow.Author.Rules.{rules}
 use Rattle.study.proofs.scenarios.between.Goals as goal
 
 pub returns-else-h-eq0 : goal.returns-else-h-eq0

@@ -1,17 +1,14 @@
 -- `study::scenarios::read_from_first` meets its contract: each turn reads a record of a tree more, or effects in a row. Assumes nothing.
-use mathlib.Core.Path.{◌≡◌, subst}
+use mathlib.Core.Path.{◌≡◌}
 use mathlib.Core.Bool.{true, false}
-use mathlib.Core.List.{List, []}
-use Prim.Native.Nat.{ℕ, ◌+◌, ◌-◌, ◌≤◌}
-use native.Mathlib.Omega.{arith}
-use lib.ListN.{length, get_or, drop, replicate, length-drop}
-use lib.Dec.{T}
+use mathlib.Core.List.{List}
+use Prim.Native.Nat.{ℕ, ◌+◌, ◌-◌}
+use lib.ListN.{length, get_or, drop, replicate}
 use Rattle.model.specs.Machine.{state, core, reading}
 use Rattle.counting.specs.Kinds.{with_kinds}
-use Rattle.study.specs.Spans.{of_scenario, length_of, Next, after_first, Records}
-use Rattle.study.proofs.SpanLaws.{Standing, Reached, standing_start, reached_start, rest_is, scenario_known, more_read, records_more, standing_next, reached_next}
-use Rattle.study.proofs.MoveLaws.{at_first, counted}
-use borrow.Author.Rules.{rules}
+use Rattle.study.specs.Spans.{of_scenario, length_of, after_first, Records}
+use Rattle.study.proofs.SpanLaws.{Standing, Reached}
+use Rattle.study.proofs.MoveLaws.{at_first}
 use Rattle.study.proofs.scenarios.read_from_first.Given as goal
 
 -- while there is more, a record of a scenario stands at the place; then the records up to it have been read

@@ -19,7 +19,6 @@ use Rattle.decoding.proofs.DecodeLaws.{decode_leak, decode_branching, decode_out
 use Rattle.study.specs.Spans.{of_scenario, length_of, after_first, Records}
 use Rattle.study.proofs.SpanLaws.{IsEffect, length_at, scenario_cases, scenario_known, in_sixteen, read_alone, records_alone}
 use Rattle.study.proofs.KindTotalLaws.{Other, other_read}
-use borrow.Author.Rules.{rules}
 use Rattle.study.proofs.scenarios.read_one.Goals as goal
 
 -- the record entered has the length of the one that the bytes begin with

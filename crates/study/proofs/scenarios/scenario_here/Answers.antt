@@ -1,7 +1,6 @@
 -- `study::scenarios::scenario_here` meets its contract, case by case. Assumes nothing.
 use mathlib.Core.Path.{subst, sym, ◌∙◌}
 use lib.Dec.{T}
-use borrow.Author.Rules.{rules}
 use Rattle.study.proofs.scenarios.scenario_here.Goals as goal
 
 pub returns-then-bytes-ge16 : goal.returns-then-bytes-ge16

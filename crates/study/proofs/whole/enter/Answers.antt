@@ -2,7 +2,6 @@
 use mathlib.Core.Path.{refl, sym, subst, ◌∙◌}
 use lib.Dec.{T}
 use Rattle.reading.proofs.EnterLaws.{pending_wide, step_by_parts}
-use borrow.Author.Rules.{rules}
 use Rattle.study.proofs.whole.enter.Goals as goal
 
 pub entered-begun-requires : goal.entered-begun-requires

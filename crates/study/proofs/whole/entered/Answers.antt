@@ -2,7 +2,6 @@
 use mathlib.Core.Path.{refl}
 use native.Mathlib.Omega.{arith}
 use Rattle.model.proofs.CodecLaws.{body_most}
-use borrow.Author.Rules.{rules}
 use Rattle.study.proofs.whole.entered.Goals as goal
 
 pub overflow_add-n : goal.overflow_add-n

@@ -2,7 +2,7 @@
 use mathlib.Core.Path.{◌≡◌, ◌∙◌, ap}
 use mathlib.Core.Bool.{Bool, true, false}
 use mathlib.Core.List.{List}
-use Prim.Native.Nat.{ℕ, ◌+◌, ◌<◌, ◌≤◌}
+use Prim.Native.Nat.{ℕ, ◌+◌, ◌<◌}
 use native.Mathlib.Omega.{arith}
 use lib.ListN.{length, get_or}
 use Rattle.numeric.specs.Choice.{pick}
@@ -12,7 +12,6 @@ use Rattle.model.specs.Machine.{state, core, reading, open_phase, step, cleared,
 use Rattle.counting.specs.Kinds.{with_kinds}
 use Rattle.study.specs.Spans.{length_of, Next}
 use Rattle.study.proofs.SpanLaws.{rest, EnteredEither, either_wide, either_there, either_read, either_byte}
-use borrow.Author.Rules.{rules}
 use Rattle.study.proofs.whole.read_on.Goals as goal
 
 -- what has been entered, of the bytes from a place on

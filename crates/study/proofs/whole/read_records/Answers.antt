@@ -1,13 +1,9 @@
 -- `study::whole::read_records` meets its contract: each turn reads a record more, or effects or records of trees in a row. Assumes nothing.
-use mathlib.Core.List.{List}
-use Prim.Native.Nat.{ℕ, ◌+◌, ◌-◌}
+use Prim.Native.Nat.{◌+◌}
 use native.Mathlib.Omega.{arith}
-use lib.ListN.{length, drop, length-drop}
-use Rattle.model.specs.Machine.{state}
-use Rattle.counting.specs.Kinds.{with_kinds}
-use Rattle.study.specs.Spans.{Next, Records}
-use Rattle.study.proofs.SpanLaws.{Standing, Reached, standing_start, reached_start, rest_is, more_read, read_in, read_to, standing_next, reached_next}
-use borrow.Author.Rules.{rules}
+use lib.ListN.{drop, length-drop}
+use Rattle.study.specs.Spans.{Next}
+use Rattle.study.proofs.SpanLaws.{standing_start, reached_start, rest_is, more_read, read_in, read_to, standing_next, reached_next}
 use Rattle.study.proofs.whole.read_records.Goals as goal
 
 pub loop-at-init : goal.loop-at-init

@@ -1,13 +1,10 @@
 -- `study::whole::read_records` meets its contract: each turn reads a record more, or effects or records of trees in a row. Assumes nothing.
 use mathlib.Core.List.{List}
-use Prim.Native.Nat.{ℕ, ◌+◌, ◌-◌}
-use native.Mathlib.Omega.{arith}
-use lib.ListN.{length, drop, length-drop}
+use Prim.Native.Nat.{ℕ, ◌-◌}
+use lib.ListN.{length}
 use Rattle.model.specs.Machine.{state}
 use Rattle.counting.specs.Kinds.{with_kinds}
-use Rattle.study.specs.Spans.{Next, Records}
-use Rattle.study.proofs.SpanLaws.{Standing, Reached, standing_start, reached_start, rest_is, more_read, records_more, standing_next, reached_next}
-use borrow.Author.Rules.{rules}
+use Rattle.study.proofs.SpanLaws.{Standing, Reached}
 use Rattle.study.proofs.whole.read_records.Given as goal
 
 abbrev pub invariant-loop-at : goal.invariant-loop-at

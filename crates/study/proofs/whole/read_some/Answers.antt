@@ -1,9 +1,7 @@
 -- `study::whole::read_some` meets its contract: records of scenarios in a row, or one record. Assumes nothing.
 use mathlib.Core.Path.{sym, ◌∙◌, ap}
-use Prim.Native.Nat.{ℕ}
 use Rattle.study.specs.Spans.{of_scenario}
 use Rattle.study.proofs.SpanLaws.{read_alone, records_alone}
-use borrow.Author.Rules.{rules}
 use Rattle.study.proofs.whole.read_some.Goals as goal
 
 pub read_scenarios-requires : goal.read_scenarios-requires
