@@ -1,6 +1,6 @@
 /* The risk desk for C and C++: Linux on x86-64.
  *
- * Link libriskdesk.a: `rt staticlib riskdesk` writes it to target/staticlib, `tools/install PREFIX`
+ * Link libriskdesk.a: `tools/build-library` writes it to target/staticlib, `tools/install PREFIX`
  * to PREFIX/lib with a pkg-config file. It needs memcpy and memset, nothing else.
  *
  *     riskdesk_study study = riskdesk_fresh();

@@ -22,7 +22,7 @@ fn link() -> Result<(), String> {
     println!("cargo::rerun-if-changed={}", archive.display());
     if !archive.is_file() {
         return Err(format!(
-            "{} is missing: run `rt staticlib riskdesk` in the repository, or let RISKDESK_LIB_DIR name the folder that holds libriskdesk.a",
+            "{} is missing: run `tools/build-library` in the repository, or let RISKDESK_LIB_DIR name the folder that holds libriskdesk.a",
             archive.display()
         ));
     }

@@ -1,5 +1,5 @@
 //! The risk desk of a chemical park for Rust: the proved desk, linked from
-//! `libriskdesk.a` (`rt staticlib riskdesk`).
+//! `libriskdesk.a` (`tools/build-library`).
 //!
 //! A [`Study`] is fed its bytes in pieces of any length. When its closing
 //! record has been read and agrees, it reports totals, sums, margins, grades

@@ -1,5 +1,5 @@
 -- The record of each kind in its bytes. Assumes nothing.
-use mathlib.Core.Path.{◌≡◌, refl, sym, ◌∙◌}
+use mathlib.Core.Path.{◌≡◌, refl, sym}
 use mathlib.Core.Logic.{◌⊎◌, inl, inr}
 use mathlib.Core.List.{List}
 use Prim.Native.Nat.{ℕ}
@@ -9,7 +9,7 @@ use Rattle.numeric.specs.Choice.{if_eq, if_lt}
 use Rattle.numeric.proofs.ChoiceLaws.{eq_case, ne_case, eq_both}
 use Rattle.terms.specs.Terms.{tenths_unit, clock_of}
 use Rattle.model.specs.Content.{given, on_curve, described, Effect, target_of, intensity, duration, clock}
-use Rattle.model.specs.Format.{Record, opening_rec, target_rec, leak_rec, branching_rec, outcome_rec, effect_rec, closing_rec}
+use Rattle.model.specs.Format.{opening_rec, target_rec, leak_rec, branching_rec, outcome_rec, effect_rec, closing_rec}
 use Rattle.model.specs.Faults.{unit_fault}
 use Rattle.model.specs.Verdict.{field, decode, facts_at}
 use Rattle.decoding.specs.Effects.{unit_of, effect_of}

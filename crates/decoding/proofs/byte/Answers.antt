@@ -1,7 +1,6 @@
 -- `decoding::byte` meets its contract: past the last byte stands 0. Assumes nothing.
 use mathlib.Core.Path.{sym}
 use lib.ListN.{get_or-eq_default}
-use borrow.Author.Rules.{rules}
 use Rattle.decoding.proofs.byte.Goals as goal
 
 pub returns : goal.returns

@@ -1,7 +1,6 @@
 -- `decoding::byte_at_9` meets its contract. Assumes nothing.
 use mathlib.Core.Path.{◌∙◌}
 use Rattle.decoding.proofs.Laws.{field_1}
-use borrow.Author.Rules.{rules}
 use Rattle.decoding.proofs.byte_at_9.Goals as goal
 
 pub returns : goal.returns

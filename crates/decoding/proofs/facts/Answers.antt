@@ -1,7 +1,6 @@
 -- `decoding::facts` meets its contract. Assumes nothing.
 use mathlib.Core.Path.{refl}
 use Rattle.decoding.proofs.Laws.{field_1}
-use borrow.Author.Rules.{rules}
 use Rattle.decoding.proofs.facts.Goals as goal
 
 pub returns : goal.returns

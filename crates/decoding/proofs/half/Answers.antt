@@ -3,7 +3,6 @@ use mathlib.Core.Path.{◌≡◌, ◌∙◌}
 use Prim.Native.Nat.{ℕ, ◌+◌}
 use lib.ListN.{get_or}
 use Rattle.decoding.proofs.Laws.{field_2}
-use borrow.Author.Rules.{rules}
 use Rattle.decoding.proofs.half.Goals as goal
 
 pub returns : goal.returns

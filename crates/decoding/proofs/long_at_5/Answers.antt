@@ -1,6 +1,5 @@
 -- `decoding::long_at_5` meets its contract: eight bytes are two fields of four. Assumes nothing.
 use Rattle.decoding.proofs.Laws.{field_8}
-use borrow.Author.Rules.{rules}
 use Rattle.decoding.proofs.long_at_5.Goals as goal
 
 pub returns : goal.returns

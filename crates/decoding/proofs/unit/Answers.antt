@@ -2,7 +2,6 @@
 use mathlib.Core.Path.{refl, sym, ◌∙◌}
 use Rattle.numeric.proofs.ChoiceLaws.{eq_case, ne_case}
 use Rattle.decoding.specs.Effects.{unit_of}
-use borrow.Author.Rules.{rules}
 use Rattle.decoding.proofs.unit.Goals as goal
 
 pub returns-then-kind-eq-TIMED_EFFECT : goal.returns-then-kind-eq-TIMED_EFFECT

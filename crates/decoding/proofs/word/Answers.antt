@@ -3,7 +3,6 @@ use mathlib.Core.Path.{◌≡◌, ◌∙◌}
 use Prim.Native.Nat.{ℕ, ◌+◌}
 use lib.ListN.{get_or}
 use Rattle.decoding.proofs.Laws.{field_4}
-use borrow.Author.Rules.{rules}
 use Rattle.decoding.proofs.word.Goals as goal
 
 pub returns : goal.returns

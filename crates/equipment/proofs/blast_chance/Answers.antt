@@ -4,7 +4,6 @@ use Prim.Native.Nat.{ℕ}
 use lib.IntN.{pos, ◌-ℤ◌}
 use Rattle.probit.specs.Chance.{chance_of}
 use Rattle.equipment.specs.Damage.{blast_probit_by}
-use borrow.Author.Rules.{rules}
 use Rattle.equipment.proofs.blast_chance.Goals as goal
 
 pub returns : goal.returns

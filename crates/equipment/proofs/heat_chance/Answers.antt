@@ -1,7 +1,6 @@
 -- `equipment::heat_chance` meets its contract. Assumes nothing.
 use native.Mathlib.Omega.{arith}
 use Rattle.equipment.specs.Damage.{heat_probit_by}
-use borrow.Author.Rules.{rules}
 use Rattle.equipment.proofs.heat_chance.Goals as goal
 
 pub overflow_add-heat : goal.overflow_add-heat

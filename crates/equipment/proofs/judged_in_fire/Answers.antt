@@ -1,7 +1,6 @@
 -- `equipment::judged_in_fire` meets its contract, class by class. Assumes nothing.
 use mathlib.Core.Path.{◌∙◌}
 use native.Mathlib.Omega.{arith}
-use borrow.Author.Rules.{rules}
 use Rattle.equipment.proofs.FireLaws.{others_unjudged, judged_class, sphere_volume}
 use Rattle.equipment.proofs.judged_in_fire.Goals as goal
 

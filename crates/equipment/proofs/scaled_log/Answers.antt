@@ -2,7 +2,6 @@
 use Prim.Native.Nat.{◌*◌, ◌^◌, ◌≤◌}
 use native.Mathlib.Nat.{mul-le-mul, le_of_lt, div-le_self}
 use native.Mathlib.Omega.{arith}
-use borrow.Author.Rules.{rules}
 use Rattle.equipment.proofs.scaled_log.Goals as goal
 
 product_le : (c : goal.After-l-log) → c.args.factor * c.l-log.result ≤ 2 ^ 22 * 8191

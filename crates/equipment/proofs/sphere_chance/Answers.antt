@@ -5,7 +5,6 @@ use native.Mathlib.Omega.{arith}
 use lib.IntN.{pos, ◌-ℤ◌}
 use Rattle.probit.specs.Chance.{chance_of}
 use Rattle.equipment.specs.Damage.{sphere_probit_by}
-use borrow.Author.Rules.{rules}
 use Rattle.equipment.proofs.sphere_chance.Goals as goal
 
 pub overflow_add-heat : goal.overflow_add-heat

@@ -1,5 +1,4 @@
 -- `faults::own_closing` meets its contract. Assumes nothing.
-use borrow.Author.Rules.{rules}
 use Rattle.faults.proofs.own_closing.Goals as goal
 
 pub returns : goal.returns

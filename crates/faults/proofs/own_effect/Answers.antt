@@ -1,7 +1,6 @@
 -- `faults::own_effect` meets its contract. Assumes nothing.
 use mathlib.Core.Path.{refl}
 use Rattle.numeric.proofs.ChoiceLaws.{lt_case, ge_case}
-use borrow.Author.Rules.{rules}
 use Rattle.faults.proofs.own_effect.Goals as goal
 
 pub returns-then-unit-gt-TENTHS : goal.returns-then-unit-gt-TENTHS

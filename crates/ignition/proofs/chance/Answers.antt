@@ -1,7 +1,6 @@
 -- `ignition::chance` meets its contract: a curve's chance has its place in the table. Assumes nothing.
 use mathlib.Core.Path.{◌∙◌}
 use native.Mathlib.Omega.{arith}
-use borrow.Author.Rules.{rules}
 use Rattle.ignition.proofs.Laws.{curve_at, no_curve}
 use Rattle.ignition.proofs.chance.Goals as goal
 

@@ -1,7 +1,6 @@
 -- `ignition::chance_at` meets its contract: each arm gives the table's entry. Assumes nothing.
 use mathlib.Core.Path.{◌≡◌, ◌∙◌}
 use Prim.Native.Nat.{ℕ, ◌/◌, ◌%◌}
-use native.Mathlib.Omega.{arith}
 use Rattle.ignition.specs.Ignition.{curves}
 use Rattle.ignition.specs.Tables.{entry_of}
 use Rattle.ignition.proofs.Laws.{at_place, past_the_rows}

@@ -1,6 +1,5 @@
 -- `ignition::entry` meets its contract. Assumes nothing.
 use mathlib.Core.Path.{refl}
-use borrow.Author.Rules.{rules}
 use Rattle.ignition.specs.Tables.{entry_of}
 use Rattle.ignition.proofs.entry.Goals as goal
 

@@ -4,11 +4,9 @@ use Prim.Native.Nat.{ℕ, ◌+◌, ◌-◌, ◌/◌, ◌%◌, ◌^◌, ◌≤◌
 use native.Mathlib.Omega.{arith}
 use lib.ListN.{get_or}
 use lib.Count.{count_leading_zeros}
-use borrow.Author.Rules.{rules}
 use Rattle.numeric.specs.Choice.{if_lt}
 use Rattle.numeric.proofs.ChoiceLaws.{lt_case, ge_case}
 use Rattle.thresholds.specs.Thresholds.{thresholds}
-use Rattle.log2.specs.Logarithm.{logarithm}
 use Rattle.log2.specs.Tables.{near_steps, step_by}
 use Rattle.log2.proofs.Laws.{Scaled, scaled, scaled_few, logarithm_small, logarithm_le}
 use Rattle.log2.proofs.Carried.{log_by_step}

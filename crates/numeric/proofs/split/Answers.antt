@@ -1,7 +1,6 @@
 -- `numeric::split` meets its contract: the two calls are the two branches. Assumes nothing.
 use mathlib.Core.Path.{refl}
 use native.Mathlib.Omega.{arith}
-use borrow.Author.Rules.{rules}
 use Rattle.numeric.specs.Share.{split_of}
 use Rattle.numeric.proofs.ShareLaws.{share_capped}
 use Rattle.numeric.proofs.split.Goals as goal

@@ -4,7 +4,6 @@ use Prim.Native.Nat.{ℕ}
 use lib.IntN.{pos, ◌-ℤ◌}
 use Rattle.probit.specs.Chance.{chance_of}
 use Rattle.people.specs.Death.{fire_probit_by}
-use borrow.Author.Rules.{rules}
 use Rattle.people.proofs.by_probit.Goals as goal
 
 pub returns : goal.returns

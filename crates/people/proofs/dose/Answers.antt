@@ -1,5 +1,4 @@
 -- `people::dose` meets its contract. Assumes nothing.
-use borrow.Author.Rules.{rules}
 use Rattle.people.proofs.dose.Goals as goal
 
 pub returns : goal.returns

@@ -1,5 +1,4 @@
 -- `probit::chance` meets its contract: the entry of the probit's hundredth is its chance. Assumes nothing.
-use borrow.Author.Rules.{rules}
 use Rattle.probit.proofs.Laws.{chance_difference}
 use Rattle.probit.proofs.chance.Goals as goal
 

@@ -1,7 +1,6 @@
 -- `thresholds::threshold` meets its contract: each arm gives the table's entry. Assumes nothing.
 use mathlib.Core.Path.{◌≡◌, ◌∙◌}
 use Prim.Native.Nat.{ℕ}
-use native.Mathlib.Omega.{arith}
 use lib.ListN.{get_or}
 use Rattle.numeric.proofs.TableLaws.{at_place, past_the_table}
 use Rattle.thresholds.specs.Thresholds.{thresholds}

@@ -1,6 +1,5 @@
 -- `volumes::further` meets its contract, case by case. Assumes nothing.
 use mathlib.Core.Path.{refl}
-use native.Mathlib.Omega.{arith}
 use borrow.Author.Rules.{rules}
 use Rattle.numeric.proofs.ChoiceLaws.{lt_case, ge_case, le_case, gt_case}
 use Rattle.volumes.specs.Tables.{further_to}

@@ -2,7 +2,6 @@
 use mathlib.Core.Path.{sym, ◌∙◌, ap}
 use Prim.Native.Nat.{ℕ, ◌+◌}
 use native.Mathlib.Omega.{arith}
-use borrow.Author.Rules.{rules}
 use Rattle.volumes.specs.Root.{root_of}
 use Rattle.volumes.proofs.Laws.{root_zero}
 use Rattle.volumes.proofs.Carried.{root_by_halves}

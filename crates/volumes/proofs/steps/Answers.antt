@@ -1,9 +1,6 @@
 -- `volumes::steps` meets its contract: each turn leaves what is still to be halved. Assumes nothing.
-use mathlib.Core.Path.{◌≡◌, refl, ◌∙◌}
-use Prim.Native.Nat.{◌<◌, ◌≤◌}
+use mathlib.Core.Path.{refl, ◌∙◌}
 use native.Mathlib.Omega.{arith}
-use borrow.Author.Rules.{rules}
-use Rattle.volumes.specs.Tables.{halved}
 use Rattle.volumes.proofs.Carried.{halved_more, halved_none}
 use Rattle.volumes.proofs.steps.Goals as goal
 

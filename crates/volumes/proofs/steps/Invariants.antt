@@ -1,10 +1,7 @@
 -- `volumes::steps` meets its contract: each turn leaves what is still to be halved. Assumes nothing.
-use mathlib.Core.Path.{◌≡◌, refl, ◌∙◌}
+use mathlib.Core.Path.{◌≡◌}
 use Prim.Native.Nat.{◌<◌, ◌≤◌}
-use native.Mathlib.Omega.{arith}
-use borrow.Author.Rules.{rules}
 use Rattle.volumes.specs.Tables.{halved}
-use Rattle.volumes.proofs.Carried.{halved_more, halved_none}
 use Rattle.volumes.proofs.steps.Given as goal
 
 abbrev pub invariant-loop-turns : goal.invariant-loop-turns
