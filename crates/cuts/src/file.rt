@@ -3,9 +3,6 @@ ghost use Rattle.std.specs.Prelude.{◌≤◌, length};
 
 use std::io;
 
-// The system's number for a file that is too large.
-const TOO_LARGE: i32 = 27;
-
 // How many bytes were read, whether there may be more, and what failed: a read, or the file is longer than the buffer.
 #[derive(Clone, Copy)]
 pub(crate) struct Read {
@@ -30,7 +27,7 @@ fn read_more<R: io::Read>(input: &mut R, buffer: &mut [u8], n: usize) -> Read
                 return Read {
                     count: n,
                     more: false,
-                    failed: Some(io::Error::from_raw_os_error(TOO_LARGE)),
+                    failed: Some(io::Error::from(io::ErrorKind::FileTooLarge)),
                 };
             }
             Read {

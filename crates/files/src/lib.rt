@@ -1,6 +1,8 @@
 // What the programs read by name: the files that their arguments name, and the words for what failed.
 #![tactic(auto)]
 
+ghost use Rattle.files.specs.Names.{NamedBy, IsArgument};
+
 use std::env::FillError;
 use std::io;
 use std::io::{Cursor, Write};
@@ -23,7 +25,9 @@ pub enum Name<'a> {
 }
 
 // The argument i, into the lent bytes. The library opens names that are UTF-8 alone.
-pub fn argument<'a>(rt: &impl Env, i: usize, bytes: &'a mut [u8]) -> Name<'a> {
+pub fn argument<'a>(rt: &impl Env, i: usize, bytes: &'a mut [u8]) -> Name<'a>
+    ensures { IsArgument result }
+{
     match rt.arg(i, bytes) {
         Ok(n) => named(&bytes[..n]),
         Err(FillError::TooLong) => Name::Failed(io::Error::from_raw_os_error(TOO_LONG)),
@@ -31,7 +35,9 @@ pub fn argument<'a>(rt: &impl Env, i: usize, bytes: &'a mut [u8]) -> Name<'a> {
     }
 }
 
-fn named(bytes: &[u8]) -> Name<'_> {
+fn named(bytes: &[u8]) -> Name<'_>
+    ensures { NamedBy bytes.now result }
+{
     match str::from_utf8(bytes) {
         Ok(name) => Name::Text(name),
         Err(_) => Name::Failed(io::Error::from_raw_os_error(NO_TEXT)),
