@@ -6,3 +6,4 @@ pub mod RecordLaws
 pub mod FollowLaws
 pub mod KindTotalLaws
 pub mod MoveLaws
+pub mod Fields
