@@ -3,6 +3,9 @@
 
 pub mod phase;
 pub mod record;
+mod refusal;
+
+pub use refusal::Refusal;
 
 // The targets that a study has rows for.
 pub const MOST_TARGETS: u16 = 256;
@@ -11,7 +14,7 @@ pub const MOST_TARGETS: u16 = 256;
 
 // Where the reading stands.
 #[repr(C)]
-#[derive(Clone, Copy)]
+#[derive(Clone, Copy, Default)]
 pub struct Reading {
     // bytes read so far
     pub place: u64,
@@ -29,7 +32,7 @@ pub struct Reading {
 
 // What the records so far add up to.
 #[repr(C)]
-#[derive(Clone, Copy)]
+#[derive(Clone, Copy, Default)]
 pub struct Counts {
     // sum of the leak frequencies
     pub leaks: u64,
@@ -42,7 +45,7 @@ pub struct Counts {
 
 // Where in a tree the reading stands.
 #[repr(C)]
-#[derive(Clone, Copy)]
+#[derive(Clone, Copy, Default)]
 pub struct Branch {
     // the leak's frequency
     pub leak: u64,
@@ -60,7 +63,7 @@ pub struct Branch {
 
 // Totals of the study.
 #[repr(C)]
-#[derive(Clone, Copy)]
+#[derive(Clone, Copy, Default)]
 pub struct Tally {
     pub kind0: u64,
     pub kind1: u64,
@@ -74,7 +77,7 @@ pub struct Tally {
 
 // All of a study but its arrays.
 #[repr(C)]
-#[derive(Clone, Copy)]
+#[derive(Clone, Copy, Default)]
 pub struct Core {
     pub reading: Reading,
     pub counts: Counts,
@@ -90,9 +93,18 @@ pub struct Row {
     pub facts: u64,
 }
 
-// A report of the whole study. A refused one has 0 in every field but number and place.
+// What a study keeps of all targets: for each its sum, its margin, and its facts packed with its mark on the domino list.
 #[repr(C)]
 #[derive(Clone, Copy)]
+pub struct Rows {
+    pub sums: [u64; 256],
+    pub margins: [u32; 256],
+    pub facts: [u64; 256],
+}
+
+// A report of the whole study. A refused one has 0 in every field but number and place.
+#[repr(C)]
+#[derive(Clone, Copy, PartialEq, Eq)]
 pub struct Totals {
     pub number: u8,
     pub place: u64,
@@ -106,7 +118,7 @@ pub struct Totals {
 
 // A report of one target: its grade where it is a place of people (class 0), whether it is listed where it is equipment.
 #[repr(C)]
-#[derive(Clone, Copy)]
+#[derive(Clone, Copy, PartialEq, Eq)]
 pub struct TargetReport {
     pub number: u8,
     pub place: u64,
@@ -119,7 +131,7 @@ pub struct TargetReport {
 
 // A report of the domino list: how many numbers stand at the front of the lent list.
 #[repr(C)]
-#[derive(Clone, Copy)]
+#[derive(Clone, Copy, PartialEq, Eq)]
 pub struct DominoReport {
     pub number: u8,
     pub place: u64,
