@@ -1,4 +1,4 @@
--- To be believed. The numbers that a call says no with (document 01, "Numbers the desk says no with"). Assumes nothing.
+-- For the proofs. The numbers of the reasons for which a call says no (document 01, "Numbers the desk says no with"). Assumes nothing.
 use Rattle.std.specs.Prelude.{ℕ, Result, Ok, Err}
 use Rattle.state.specs.declared.refusal.Refusal.{Refusal}
 use Rattle.state.specs.declared.refusal.Refusal.TheVariants.{UnknownKind, Order, Field, Numbering, TooMany, ClosingDiffers, AfterClosing, NotClosed, NoSuchTarget, ListTooShort}
