@@ -16,42 +16,32 @@ const TOO_LONG: i32 = 36;
 
 const NO_TEXT: i32 = 84;
 
-// What an argument names: its text, or why it cannot be taken. Or there is none.
-#[derive(Clone, Copy)]
-pub enum Name<'a> {
-    Text(&'a str),
-    Failed(io::Error),
-    Missing,
-}
-
-// The argument i, into the lent bytes. The library opens names that are UTF-8 alone.
-pub fn argument<'a>(rt: &impl Env, i: usize, bytes: &'a mut [u8]) -> Name<'a>
+// What the argument i names, in the lent bytes: its text, or why it cannot be taken; none where there is no such argument. The library opens names that are UTF-8 alone.
+pub fn argument<'a>(rt: &impl Env, i: usize, bytes: &'a mut [u8]) -> Option<io::Result<&'a str>>
     ensures { IsArgument result }
 {
     match rt.arg(i, bytes) {
         Ok(n) => named(&bytes[..n]),
-        Err(FillError::TooLong) => Name::Failed(io::Error::from_raw_os_error(TOO_LONG)),
-        Err(FillError::NotPresent) => Name::Missing,
+        Err(FillError::TooLong) => Some(Err(io::Error::from_raw_os_error(TOO_LONG))),
+        Err(FillError::NotPresent) => None,
     }
 }
 
-fn named(bytes: &[u8]) -> Name<'_>
+fn named(bytes: &[u8]) -> Option<io::Result<&str>>
     ensures { NamedBy bytes.now result }
 {
     match str::from_utf8(bytes) {
-        Ok(name) => Name::Text(name),
-        Err(_) => Name::Failed(io::Error::from_raw_os_error(NO_TEXT)),
+        Ok(name) => Some(Ok(name)),
+        Err(_) => Some(Err(io::Error::from_raw_os_error(NO_TEXT))),
     }
 }
 
 // The system's words for an error, without the number that the library puts behind them.
 fn words(text: &[u8]) -> &str {
-    match str::from_utf8(text) {
-        Ok(all) => match all.split_once(" (os error ") {
-            Some((words, _)) => words,
-            None => all,
-        },
-        Err(_) => "",
+    let all = str::from_utf8(text).unwrap_or("");
+    match all.split_once(" (os error ") {
+        Some((words, _)) => words,
+        None => all,
     }
 }
 

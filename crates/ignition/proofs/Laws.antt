@@ -1,20 +1,21 @@
 -- Laws of the ignition curves. Assumes nothing.
-use mathlib.Core.Path.{◌≡◌, refl, sym, ap, subst}
+use mathlib.Core.Path.{◌≡◌, refl, sym, subst}
 use mathlib.Core.Logic.{◌⊎◌, inl, inr, ⊎_elim}
 use mathlib.Core.Bool.{Bool, true, false}
 use mathlib.Core.List.{List, [], ◌∷◌}
-use Prim.Native.Nat.{ℕ, zero, suc, ◌+◌, ◌-◌, ◌*◌, ◌/◌, ◌%◌, ◌<◌, ◌≤◌}
+use Prim.Native.Nat.{ℕ, zero, suc, ◌+◌, ◌-◌, ◌<◌, ◌≤◌, min}
 use native.Mathlib.Nat.{le_trans, lt_of_le_of_lt, not-suc-le-zero, le_of_suc-le-suc, le_antisymm}
 use native.Mathlib.Decide.{dec_le}
 use native.Mathlib.Omega.{arith}
-use lib.Dec.{T, eqb, leb, leb→le}
+use lib.Dec.{T, eqb, leb, ltb, leb→le}
 use lib.ListN.{length, get_or}
-use borrow.Author.Tests.{eqb-true}
+use borrow.Author.Tests.{eqb-true, ltb-true, ltb-false}
+use Rattle.std.specs.List.Sorted.{IsPartitionPoint, IsPartitionedBy}
+use Rattle.std.proofs.lemmas.List.Sorted.{IsPartitionedBy-ltb, IsNonDecreasingBy-from_default}
 use Rattle.numeric.specs.Choice.{if_le}
 use Rattle.numeric.specs.Share.{certain}
 use Rattle.numeric.proofs.ChoiceLaws.{le_case, gt_case}
-use Rattle.numeric.proofs.TableLaws.{both, both_left, both_right, rises, rising, NoneOf, none_below}
-use Rattle.ignition.specs.Tables.{entry_of}
+use Rattle.numeric.proofs.TableLaws.{both, both_left, both_right, rises, rising}
 use Rattle.ignition.specs.Ignition.{rates, curves, place_of, column, row, ignition, LeastNotBelow, CurvesHold}
 
 -- ---- the column of a rate
@@ -153,27 +154,34 @@ curves_hold =
     whole zero l h = absurd (not-suc-le-zero l)
     whole (suc i) l h = (sound_at_lem curves tt i (omega arith)).long
 
--- ---- the lookup: a `match` on the place of a chance, the rows one after the other
+-- ---- the lookup
 
--- what the arm of place n gives
-pub at_place : {k n : ℕ} → k ≡ n → entry_of curves (n / 13) (n % 13) ≡ entry_of curves (k / 13) (k % 13)
-at_place e = ap (λ (i : ℕ). entry_of curves (i / 13) (i % 13)) (sym e)
+-- so many of the rates are below a rate as its column is, which is the last where all are
+pub column_by_count : (rate n : ℕ) → n ≤ 13 → IsPartitionPoint (λ y. ltb y rate ≡ true) (λ y. ltb y rate ≡ false) rates n → min n 12 ≡ column rate
+column_by_count rate n w p = column_is rate (min n 12) (omega arith) (lo (dec_le n 0)) (hi (dec_le 12 n))
+  where
+    below : (k : ℕ) → k < n → get_or rates k 0 < rate
+    below k h = ltb-true _ _ (p.0 k 0 (omega arith) h)
 
--- past the last row there is no chance
-pub past_the_rows : (k : ℕ) → NoneOf 169 k → 0 ≡ entry_of curves (k / 13) (k % 13)
-unfolding entry_of
-past_the_rows k n = let h : 13 ≤ k / 13 = omega (arith, none_below 169 k n) in rw (no_row curves (k / 13) h) refl
+    lo : Dec (n ≤ 0) → (min n 12 ≡ 0) ⊎ (get_or rates (min n 12 - 1) 0 < rate)
+    lo (yes h) = inl (omega arith)
+    lo (no h) = inr (below _ (omega arith))
 
--- a curve's chance has its place
-pub curve_at : (curve rate j : ℕ) → 1 ≤ curve → j < 13 → j ≡ column rate → entry_of curves (((curve - 1) * 13 + j) / 13) (((curve - 1) * 13 + j) % 13) ≡ ignition curve rate
-unfolding ignition entry_of
-curve_at zero rate j h l e = absurd (not-suc-le-zero h)
-curve_at (suc i) rate j h l e =
-    let a : ((suc i - 1) * 13 + j) / 13 ≡ i = omega arith in
-    let b : ((suc i - 1) * 13 + j) % 13 ≡ j = omega arith in
-    rw (a, b, e) refl
+    hi : Dec (12 ≤ n) → (min n 12 ≡ 12) ⊎ (rate ≤ get_or rates (min n 12) 0)
+    hi (yes h) = inl (omega arith)
+    hi (no h) = let e : min n 12 ≡ n = omega arith in rw e (inr (ltb-false _ _ (p.1 n 0 (omega arith) (omega arith))))
 
--- there is no curve 0
-pub no_curve : (curve rate : ℕ) → curve ≡ 0 → 0 ≡ ignition curve rate
+pub rates_parted : (rate : ℕ) → IsPartitionedBy (λ y. ltb y rate) rates
+rates_parted rate = IsPartitionedBy-ltb (λ y. y) rates rate (IsNonDecreasingBy-from_default (λ y. y) rates 0 (rising rates tt))
+
+-- a curve's chance has its row and its column
+pub curve_at : (curve rate j : ℕ) → 1 ≤ curve → j ≡ column rate → get_or (get_or curves (curve - 1) []) j 0 ≡ ignition curve rate
 unfolding ignition
-no_curve curve rate e = rw e refl
+curve_at zero rate j h e = absurd (not-suc-le-zero h)
+curve_at (suc i) rate j h e = let a : suc i - 1 ≡ i = omega arith in rw (a, e) refl
+
+-- there is no curve 0, and none past the last
+pub no_curve : (curve rate : ℕ) → (curve ≡ 0) ⊎ (13 < curve) → 0 ≡ ignition curve rate
+unfolding ignition
+no_curve zero rate h = refl
+no_curve (suc i) rate h = let l : 13 ≤ i = ⊎_elim (λ e. omega arith) (λ k. omega arith) h in rw (no_row curves i l) refl

@@ -12,6 +12,7 @@ pub struct Branches {
 }
 
 // frequency × chance / 1,000,000 rounded down, for a chance up to 1,000,000. A product that might wrap is taken in two parts.
+#[tactic(auto, using(crate::proofs::ShareLaws::share_plain, crate::proofs::ShareLaws::share_parts, crate::proofs::ShareLaws::share_le, crate::proofs::ShareLaws::high_le, crate::proofs::ShareLaws::low_le))]
 fn scaled(frequency: u64, chance: u32) -> u64
     requires { chance ≤ certain }
     ensures { result ≡ share_of frequency chance }
@@ -26,43 +27,27 @@ fn scaled(frequency: u64, chance: u32) -> u64
 }
 
 // The share of a frequency, for every chance. A certain one takes all, which saves the product.
+#[tactic(auto, using(crate::proofs::ShareLaws::share_all))]
 pub fn share(frequency: u64, chance: u32) -> u64
     ensures { result ≡ share_of frequency chance }
 {
-    if 1_000_000 <= chance {
-        return frequency;
-    }
-    scaled(frequency, chance)
-}
-
-// The chance, and certainty for any above it.
-fn capped(chance: u32) -> u32
-    ensures { result ≡ min chance certain }
-{
     if chance < 1_000_000 {
-        chance
+        scaled(frequency, chance)
     } else {
-        1_000_000
+        frequency
     }
-}
-
-// What is left of a frequency when a part is taken.
-fn rest(whole: u64, part: u64) -> u64
-    ensures { result ≡ whole - part }
-{
-    if part <= whole { whole - part } else { 0 }
 }
 
 // Both branches: the first has its share, the second the rest. No branch of the code hangs on the chance, so that the compiler keeps a chance that is looked up
 // in its table.
+#[tactic(auto, using(crate::proofs::ShareLaws::share_capped), unfolding(crate::specs::Share::split_of))]
 pub fn split(frequency: u64, chance: u32) -> Branches
     ensures { result ≡ split_of frequency chance }
 {
-    let first = scaled(frequency, capped(chance));
-    let second = rest(frequency, first);
+    let first = scaled(frequency, chance.min(1_000_000));
     Branches {
-        first: first,
-        second: second,
+        first,
+        second: frequency.saturating_sub(first),
     }
 }
 
@@ -70,25 +55,17 @@ pub fn split(frequency: u64, chance: u32) -> Branches
 pub fn add64(x: u64, y: u64) -> u64
     ensures { result ≡ min (x + y) 18446744073709551615 }
 {
-    if y <= 18_446_744_073_709_551_615 - x {
-        x + y
-    } else {
-        18_446_744_073_709_551_615
-    }
+    u64::saturating_add(x, y)
 }
 
 pub fn add32(x: u32, y: u32) -> u32
     ensures { result ≡ min (x + y) 4294967295 }
 {
-    if y <= 4_294_967_295 - x {
-        x + y
-    } else {
-        4_294_967_295
-    }
+    u32::saturating_add(x, y)
 }
 
 pub fn add16(x: u16, y: u16) -> u16
     ensures { result ≡ min (x + y) 65535 }
 {
-    if y <= 65_535 - x { x + y } else { 65_535 }
+    u16::saturating_add(x, y)
 }

@@ -218,17 +218,6 @@ rows_found y i n f e =
       beyond = λ k a b. omega (arith, f.beyond k a b, row_range k b);
     }
 
--- the entries from a to b, and not b, are x
-abbrev pub alike_at : ℕ → ℕ → ℕ → ℕ → ℕ → Bool
-alike_at a b x i v = pick (ltb i a) true (pick (leb b i) true (eqb v x))
-
-pub alike : (a b x : ℕ) → b ≤ 544 → T (every (alike_at a b x) 0 rows) → (i : ℕ) → a ≤ i → i < b → x ≡ get_or rows (min i 543) 0
-alike a b x w t i l h =
-    let e : T (alike_at a b x i (entry rows i)) = at (alike_at a b x) rows t i (omega arith) in
-    let f : T (eqb (entry rows i) x) = rw (le-ltb i a l, lt-leb b i h) at e in
-    let m : i ≡ min i 543 = omega arith in
-    sym (eqb→eq _ _ f) ∙ sym (get_or_entry rows i) ∙ ap (λ (k : ℕ). get_or rows k 0) m
-
 pub right_rows : RightRows
 right_rows = rows_at_lem rows refl tt
 

@@ -1,11 +1,17 @@
 -- What is found in the table is K. Assumes nothing.
 use mathlib.Core.Path.{◌≡◌, refl, subst}
+use mathlib.Core.Bool.{true, false}
 use mathlib.Core.Logic.{◌⊎◌, inl, inr, ⊎_elim}
 use Prim.Native.Nat.{ℕ, zero, suc, ◌+◌, ◌-◌, ◌/◌, ◌*◌, ◌^◌, ◌<◌, ◌≤◌}
 use native.Mathlib.Nat.{pow-suc}
 use native.Mathlib.Decide.{dec_le}
 use native.Mathlib.Omega.{arith}
+use lib.Dec.{leb}
 use lib.ListN.{get_or}
+use borrow.Author.Tests.{leb-true, leb-false}
+use Rattle.std.specs.List.Sorted.{IsPartitionPoint, IsPartitionedBy}
+use Rattle.std.proofs.lemmas.List.Sorted.{IsPartitionedBy-leb, IsNonDecreasingBy-from_default}
+use Rattle.numeric.proofs.TableLaws.{rising}
 use Rattle.numeric.proofs.ChoiceLaws.{lt_case, ge_case, le_case, gt_case}
 use Rattle.volumes.specs.Root.{root_of}
 use Rattle.volumes.specs.Tables.{least_volumes, RightVolumes, further_to, halved, RootByHalves}
@@ -62,13 +68,25 @@ root_by_halves volume z = go (dec_le volume 10000)
     go (yes h) = root_found least_volumes volume _ right_volumes z h w.there w.low next
     go (no h) = root_beyond least_volumes volume _ right_volumes (omega arith) w.there next
 
--- a turn more, and none
-pub halved_more : (volume n step ahead : ℕ) → 0 < n → halved volume (n - 1) (further_to volume step ahead) (ahead / 2) ≡ halved volume n step ahead
-unfolding halved
-halved_more volume zero step ahead h = let z : ⊥ = omega arith in absurd z
-halved_more volume (suc n) step ahead h = let e : suc n - 1 ≡ n = omega arith in rw e refl
+-- ---- the table as it is searched: a volume's root by how many of the least volumes are at most the volume
 
-pub halved_none : (volume n step ahead : ℕ) → n ≤ 0 → step ≡ halved volume n step ahead
-unfolding halved
-halved_none volume zero step ahead h = refl
-halved_none volume (suc n) step ahead h = let z : ⊥ = omega arith in absurd z
+pub volumes_parted : (volume : ℕ) → IsPartitionedBy (λ y. leb y volume) least_volumes
+volumes_parted volume = IsPartitionedBy-leb (λ y. y) least_volumes volume (IsNonDecreasingBy-from_default (λ y. y) least_volumes 0 (rising least_volumes tt))
+
+pub root_by_count : (volume n : ℕ) → 0 < volume → n ≤ 343 → IsPartitionPoint (λ y. leb y volume ≡ true) (λ y. leb y volume ≡ false) least_volumes n → 999 + n ≡ root_of volume
+root_by_count volume n z w p = go (dec_le volume 10000) (dec_le 1 n) (dec_le 343 n)
+  where
+    low : 1 ≤ n → get_or least_volumes (n - 1) 0 ≤ volume
+    low h = leb-true _ _ (p.0 (n - 1) 0 (omega arith) (omega arith))
+
+    high : (k : ℕ) → n ≤ k → k < 343 → volume < get_or least_volumes k 0
+    high k h l = leb-false _ _ (p.1 k 0 h l)
+
+    next : 1 ≤ n → Dec (343 ≤ n) → (n - 1 ≡ 342) ⊎ (volume < get_or least_volumes (n - 1 + 1) 0)
+    next h (yes e) = inl (omega arith)
+    next h (no e) = let s : n - 1 + 1 ≡ n = omega arith in rw s (inr (high n (omega arith) (omega arith)))
+
+    go : Dec (volume ≤ 10000) → Dec (1 ≤ n) → Dec (343 ≤ n) → 999 + n ≡ root_of volume
+    go (yes h) (yes o) d = omega (arith, o, root_found least_volumes volume (n - 1) right_volumes z h (omega arith) (inr (low o)) (next o d))
+    go (no h) (yes o) d = omega (arith, o, root_beyond least_volumes volume (n - 1) right_volumes (omega arith) (omega arith) (next o d))
+    go d (no o) e = let f : volume < get_or least_volumes 0 0 = high 0 (omega arith) (omega arith) in let x : ⊥ = omega arith in absurd x

@@ -1,4 +1,4 @@
--- For the proofs. The table of least volumes, and how a root is looked for in it. Assumes nothing.
+-- For the proofs. The table of least volumes, and that a search by halves in it finds the root. Assumes nothing.
 use Rattle.std.specs.Prelude.{◌≡◌, List, [], ◌∷◌, ℕ, zero, suc, ◌+◌, ◌/◌, ◌^◌, ◌<◌, ◌≤◌, get_or}
 use Rattle.numeric.specs.Choice.{if_le, if_lt}
 use Rattle.volumes.specs.Root.{limit, root_of}

@@ -1,17 +1,15 @@
--- `ignition::chance` meets its contract: a curve's chance has its place in the table. Assumes nothing.
-use mathlib.Core.Path.{◌∙◌}
-use native.Mathlib.Omega.{arith}
+-- `ignition::chance` meets its contract: a curve's chance stands in its row and the rate's column. Assumes nothing.
+use Rattle.std.proofs.Common.{arith}
+use mathlib.Core.Logic.{inl, inr}
 use Rattle.ignition.proofs.Laws.{curve_at, no_curve}
 use Rattle.ignition.proofs.chance.Goals as goal
+use Rattle.ignition.proofs.chance.Goals.{then-curve-eq0-via-then-curve-eq0, then-curve-eq0-via-else-curve-eq0+then-curve-gt13}
 
 pub returns-then-curve-eq0 : goal.returns-then-curve-eq0
-returns-then-curve-eq0 c = no_curve _ _ c.if-curve-eq0.true
-
-pub overflow_add-row : goal.overflow_add-row
-overflow_add-row c = omega (arith, c.column_of.ensures.1)
+returns-then-curve-eq0 c = no_curve _ _ (elim c.then-curve-eq0.branch [
+  | then-curve-eq0-via-then-curve-eq0 w ↦ inl w.if-curve-eq0.true
+  | then-curve-eq0-via-else-curve-eq0+then-curve-gt13 w ↦ inr w.if-curve-gt13.true
+])
 
 pub returns : goal.returns
-returns c =
-    let j = c in
-    let i = j in
-    c.chance_at.ensures ∙ curve_at i.args.curve i.args.rate _ (omega (arith, i.if-curve-eq0.false)) j.column_of.ensures.1 j.column_of.ensures.0
+returns c = curve_at c.args.curve c.args.rate _ (omega (arith, c.if-curve-eq0.false)) c.column_of.ensures.0
