@@ -1,40 +1,25 @@
 // The totals of a study.
-ghost use Rattle.std.specs.Prelude.{◌≡◌, ℕ, ◌<◌, length, get_or};
+ghost use Rattle.std.specs.Prelude.{◌≡◌, ℕ, ◌<◌, get_or};
 ghost use Rattle.model.specs.Machine.{kind_grown, study_tally};
 ghost use Rattle.counting.specs.Kinds.{kinds_of, tally_with};
 
 use state::Tally;
 
+#[tactic(auto, unfolding(model::specs::Machine::study_tally))]
 pub(crate) fn tally_study(y: Tally, number: u32) -> Tally
     ensures { result ≡ study_tally y number }
 {
-    Tally {
-        study: number,
-        kind0: y.kind0,
-        kind1: y.kind1,
-        kind2: y.kind2,
-        kind3: y.kind3,
-        kind4: y.kind4,
-        kind5: y.kind5,
-        unjudged: y.unjudged,
-    }
-}
-
-// How many totals an array has. The proof needs it of a lent array, whose type alone does not give it.
-fn how_many(kinds: [u64; 6]) -> usize
-    ensures { (result ≡ 6) × (length kinds ≡ 6) }
-{
-    6
+    Tally { study: number, ..y }
 }
 
 // The total of an outcome's kind grows by its frequency; a number that is no kind has no total.
+#[tactic(auto, using(crate::proofs::KindTotalLaws::kind_set, crate::proofs::KindTotalLaws::kind_none))]
 pub(crate) fn grow_kind(kinds: &mut [u64; 6], kind: u8, frequency: u64)
     ensures { (j : ℕ) → j < 6 → get_or kinds.new j 0 ≡ kind_grown kind j frequency (get_or kinds.old j 0) }
 {
-    let six = how_many(*kinds);
     let i = kind as usize;
-    if i < six {
-        kinds[i] = numeric::add64(kinds[i], frequency);
+    if i < kinds.len() {
+        kinds[i] = kinds[i].saturating_add(frequency);
     }
 }
 
@@ -50,13 +35,12 @@ pub(crate) fn tally_with(y: Tally, kinds: &[u64; 6]) -> Tally
     ensures { result ≡ tally_with kinds.now y }
 {
     Tally {
-        study: y.study,
         kind0: kinds[0],
         kind1: kinds[1],
         kind2: kinds[2],
         kind3: kinds[3],
         kind4: kinds[4],
         kind5: kinds[5],
-        unjudged: y.unjudged,
+        ..y
     }
 }

@@ -6,12 +6,11 @@ use Prim.Native.Nat.{ℕ, ◌<◌, ◌≤◌}
 use native.Mathlib.Decide.{dec_le}
 use native.Mathlib.Omega.{arith}
 use lib.Dec.{T}
-use Rattle.numeric.specs.Choice.{pick, if_eq, if_lt}
+use Rattle.numeric.specs.Choice.{pick}
 use Rattle.numeric.proofs.ChoiceLaws.{eq_case, ne_case, eq_elim}
-use Rattle.terms.specs.declared.Judged.{Judged}
 use Rattle.terms.specs.Scales.{Scales}
-use Rattle.terms.specs.Terms.{pressurised, judged_as, unjudged}
-use Rattle.equipment.specs.Damage.{heat_damage_by, sphere_damage_by, fire_chance_by, fire_judged, fire_damage_by, FireJudged}
+use Rattle.terms.specs.Terms.{judged_as, unjudged}
+use Rattle.equipment.specs.Damage.{heat_damage_by, fire_chance_by, fire_judged, fire_damage_by, FireJudged}
 
 pick_judged : (b : Bool) (c : ℕ) → (pick b (judged_as c) unjudged).judged ≡ b
 pick_judged true c = refl
@@ -34,11 +33,6 @@ unjudged_class class volume e =
 pub judged_class : (class volume : ℕ) → (class ≡ 2 → ⊥) → (class ≡ 3 → ⊥) → (class ≡ 4 → ⊥) → true ≡ fire_judged class volume
 unfolding fire_judged
 judged_class class volume a b d = ne_case _ _ _ _ b (ne_case _ _ _ _ d (ne_case _ _ _ _ a refl))
-
--- class 2 by its volume
-pub sphere_volume : (class volume : ℕ) → class ≡ pressurised → if_eq volume 0 false (if_lt 10000 volume false true) ≡ fire_judged class volume
-unfolding fire_judged
-sphere_volume class volume e = ne_case _ _ _ _ (λ z. omega arith) (ne_case _ _ _ _ (λ z. omega arith) (eq_case _ _ _ _ e refl))
 
 -- classes 3 and 4 are not
 pub others_unjudged : (class volume : ℕ) → 2 < class → class < 5 → false ≡ fire_judged class volume
@@ -74,29 +68,7 @@ module _ (s : Scales) (limit class volume q duration : ℕ) where
   unfolding fire_damage_by
   unjudged_fire e = rw (← e) refl
 
-  -- a fire that brings no chance where it is judged brings none
-  pub no_chance : 0 ≡ fire_chance_by s limit class volume q duration → 0 ≡ (fire_damage_by s limit class volume q duration).chance
-  unfolding fire_damage_by
-  no_chance e = go (fire_judged class volume)
-    where
-      go : (b : Bool) → 0 ≡ (pick b (judged_as (fire_chance_by s limit class volume q duration)) unjudged).chance
-      go true = e
-      go false = refl
-
 -- atmospheric vessels and pipes
 pub heat_fire : (s : Scales) (limit class volume q duration : ℕ) → (class ≡ 2 → ⊥) → (class ≡ 3 → ⊥) → (class ≡ 4 → ⊥) → judged_as (heat_damage_by s limit volume q duration) ≡ fire_damage_by s limit class volume q duration
 unfolding fire_chance_by
 heat_fire s limit class volume q duration a b d = ap judged_as (ne_case _ _ _ _ a refl) ∙ judged_fire s limit class volume q duration (judged_class class volume a b d)
-
--- a pressurised vessel
-module _ (s : Scales) (limit volume q duration : ℕ) where
-  pub sphere_none : 0 ≡ sphere_damage_by s limit volume q duration → 0 ≡ (fire_damage_by s limit pressurised volume q duration).chance
-  unfolding fire_chance_by
-  sphere_none e = no_chance s limit pressurised volume q duration (eq_case _ _ _ _ refl e)
-
-  pub sphere_left : false ≡ fire_judged pressurised volume → 0 ≡ (fire_damage_by s limit pressurised volume q duration).chance
-  sphere_left e = ap (λ (j : Judged). j.chance) (unjudged_fire s limit pressurised volume q duration e)
-
-  pub sphere_judged : {c : ℕ} → true ≡ fire_judged pressurised volume → c ≡ sphere_damage_by s limit volume q duration → c ≡ (fire_damage_by s limit pressurised volume q duration).chance
-  unfolding fire_chance_by
-  sphere_judged j e = eq_case _ _ _ _ refl e ∙ ap (λ (x : Judged). x.chance) (judged_fire s limit pressurised volume q duration j)

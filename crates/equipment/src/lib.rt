@@ -20,34 +20,20 @@ pub struct BlastRow {
 }
 
 // The row of a class in table D.2; pressurised vessels and pipes share one.
+#[tactic(auto, unfolding(crate::specs::Damage::blast_row_of, numeric::specs::Choice::if_eq))]
 fn blast_row(class: u8) -> BlastRow
     ensures { result ≡ blast_row_of class }
 {
-    if class == class::ATMOSPHERIC {
-        return BlastRow {
-            constant: 9_360_000,
-            factor: 134,
-            threshold: 5_170,
-        };
-    }
-    if class == class::TOWER {
-        return BlastRow {
-            constant: 12_220_000,
-            factor: 165,
-            threshold: 17_000,
-        };
-    }
-    if class == class::MACHINE {
-        return BlastRow {
-            constant: 12_420_000,
-            factor: 164,
-            threshold: 18_700,
-        };
-    }
+    let (constant, factor, threshold) = match class {
+        class::ATMOSPHERIC => (9_360_000, 134, 5_170),
+        class::TOWER => (12_220_000, 165, 17_000),
+        class::MACHINE => (12_420_000, 164, 18_700),
+        _ => (14_440_000, 182, 30_000),
+    };
     BlastRow {
-        constant: 14_440_000,
-        factor: 182,
-        threshold: 30_000,
+        constant,
+        factor,
+        threshold,
     }
 }
 
@@ -62,6 +48,7 @@ fn scaled_log(factor: u64, n: u32, divisor: u64) -> u64
 }
 
 // The chance by the probit of an explosion.
+#[tactic(auto, unfolding(crate::specs::Damage::blast_probit_by))]
 fn blast_chance(row: BlastRow, pa: u32) -> u32
     ensures { result ≡ chance_of (blast_probit_by standard row pa) }
 {
@@ -70,17 +57,20 @@ fn blast_chance(row: BlastRow, pa: u32) -> u32
 }
 
 // Explosion: overpressure in Pa on equipment of a class.
+#[tactic(auto, unfolding(crate::specs::Damage::blast_damage_by, numeric::specs::Choice::if_lt))]
 pub fn blast(class: u8, pa: u32) -> u32
     ensures { result ≡ blast_damage_by standard (blast_row_of class) pa }
 {
     let row = blast_row(class);
     if pa < row.threshold {
-        return 0;
+        0
+    } else {
+        blast_chance(row, pa)
     }
-    blast_chance(row, pa)
 }
 
 // The chance by the probit of a fire.
+#[tactic(auto, unfolding(crate::specs::Damage::heat_probit_by))]
 fn heat_chance(q: u32, volume: u32) -> u32
     ensures { result ≡ chance_of (heat_probit_by standard q volume) }
 {
@@ -90,48 +80,35 @@ fn heat_chance(q: u32, volume: u32) -> u32
 }
 
 // Fire: heat in W/m² on a vessel or pipe at atmospheric pressure. The time that it has to exceed goes by the clock.
+#[tactic(auto, unfolding(crate::specs::Damage::heat_damage_by, numeric::specs::Choice::if_lt))]
 pub fn heat(limit: u16, volume: u32, q: u32, duration: u16) -> u32
     ensures { result ≡ heat_damage_by standard limit volume q duration }
 {
-    if 15_000 < q {
-        if limit < duration {
-            return heat_chance(q, volume);
-        }
-        return 0;
+    if 15_000 < q && limit < duration {
+        heat_chance(q, volume)
+    } else {
+        0
     }
-    0
 }
 
 // Whether a pressurised vessel has a volume in m³ that the probit of a fire goes by.
+#[tactic(auto, unfolding(numeric::specs::Choice::if_eq, numeric::specs::Choice::if_lt))]
 fn has_root(volume: u32) -> bool
     ensures { result ≡ if_eq volume 0 false (if_lt 10000 volume false true) }
 {
-    if volume == 0 {
-        return false;
-    }
-    if 10_000 < volume {
-        return false;
-    }
-    true
+    matches!(volume, 1..=10_000)
 }
 
 // Whether a fire is judged on a target of a class and a volume: not on towers and machines, nor on a pressurised vessel without a root.
+#[tactic(auto, unfolding(crate::specs::Damage::fire_judged, numeric::specs::Choice::if_eq, numeric::specs::Choice::if_lt))]
 pub fn judged_in_fire(class: u8, volume: u32) -> bool
     ensures { result ≡ fire_judged class volume }
 {
-    if class == class::PEOPLE {
-        return true;
+    match class {
+        class::PRESSURISED => has_root(volume),
+        class::TOWER | class::MACHINE => false,
+        _ => true,
     }
-    if class == class::ATMOSPHERIC {
-        return true;
-    }
-    if class::PIPE <= class {
-        return true;
-    }
-    if class == class::PRESSURISED {
-        return has_root(volume);
-    }
-    false
 }
 
 // What the probit of a fire takes off for a pressurised vessel of a root.
@@ -143,6 +120,7 @@ fn sphere_size(root: u32) -> u32
 }
 
 // The chance by the probit of a fire for a pressurised vessel.
+#[tactic(auto, unfolding(crate::specs::Damage::sphere_probit_by))]
 fn sphere_chance(q: u32, volume: u32) -> u32
     ensures { result ≡ chance_of (sphere_probit_by standard q volume) }
 {
@@ -152,17 +130,13 @@ fn sphere_chance(q: u32, volume: u32) -> u32
 }
 
 // Fire: heat in W/m² on a pressurised vessel. The root of its volume is looked up past both lines alone.
+#[tactic(auto, unfolding(crate::specs::Damage::fire_damage_by, crate::specs::Damage::fire_judged, crate::specs::Damage::fire_chance_by, crate::specs::Damage::sphere_damage_by, numeric::specs::Choice::if_eq, numeric::specs::Choice::if_lt))]
 pub fn sphere(limit: u16, volume: u32, q: u32, duration: u16) -> u32
     ensures { result ≡ (fire_damage_by standard limit pressurised volume q duration).chance }
 {
-    if q <= 40_000 {
-        return 0;
+    if 40_000 < q && limit < duration && has_root(volume) {
+        sphere_chance(q, volume)
+    } else {
+        0
     }
-    if duration <= limit {
-        return 0;
-    }
-    if has_root(volume) {
-        return sphere_chance(q, volume);
-    }
-    0
 }

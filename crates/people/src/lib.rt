@@ -19,22 +19,18 @@ fn dose(q: u32, t: u32) -> u64
 }
 
 // Outdoors, 14 hundredths of the probit's chance.
+#[tactic(auto, unfolding(crate::specs::Death::setting_share, numeric::specs::Choice::if_eq))]
 fn in_setting(setting: u8, chance: u32) -> u32
     ensures { result ≡ setting_share setting chance }
 {
-    if setting == setting::OUTDOORS {
-        return ((chance as u64) * 14 / 100) as u32;
+    match setting {
+        setting::OUTDOORS => ((chance as u64) * 14 / 100) as u32,
+        _ => chance,
     }
-    chance
-}
-
-fn least(x: u16, y: u16) -> u32
-    ensures { result ≡ min x y }
-{
-    if x < y { x as u32 } else { y as u32 }
 }
 
 // The chance by the probit of a fire.
+#[tactic(auto, unfolding(crate::specs::Death::fire_probit_by))]
 fn by_probit(constant: u32, q: u32, t: u32) -> u32
     ensures { result ≡ chance_of (fire_probit_by standard constant q t) }
 {
@@ -42,24 +38,22 @@ fn by_probit(constant: u32, q: u32, t: u32) -> u32
 }
 
 // Fire: heat in W/m² for a duration. The longest time that counts and the probit's constant go by the clock.
+#[tactic(auto, unfolding(crate::specs::Death::fire_death_by, numeric::specs::Choice::if_eq, numeric::specs::Choice::if_le))]
 pub fn fire(longest: u16, constant: u32, setting: u8, q: u32, duration: u16) -> u32
     ensures { result ≡ fire_death_by standard longest constant setting q duration }
 {
     if 35_000 <= q {
         return 1_000_000;
     }
-    if setting == setting::INDOORS {
+    if setting == setting::INDOORS || q == 0 {
         return 0;
     }
-    if q == 0 {
-        return 0;
-    }
-    let t = least(duration, longest);
-    let chance = by_probit(constant, q, t);
+    let chance = by_probit(constant, q, duration.min(longest) as u32);
     in_setting(setting, chance)
 }
 
 // Flash fire: inside the lower flammable limit or not.
+#[tactic(auto, unfolding(crate::specs::Death::flash_death, numeric::specs::Choice::if_eq))]
 pub fn flash(inside: u32) -> u32
     ensures { result ≡ flash_death inside }
 {
@@ -67,17 +61,13 @@ pub fn flash(inside: u32) -> u32
 }
 
 // Explosion: overpressure in Pa.
+#[tactic(auto, unfolding(crate::specs::Death::blast_death, numeric::specs::Choice::if_eq, numeric::specs::Choice::if_le))]
 pub fn blast(setting: u8, pa: u32) -> u32
     ensures { result ≡ blast_death setting pa }
 {
-    if 30_000 <= pa {
-        return 1_000_000;
+    match (setting, pa) {
+        (_, 30_000..) => 1_000_000,
+        (setting::INDOORS, 10_000..) => 25_000,
+        _ => 0,
     }
-    if setting == setting::INDOORS {
-        if 10_000 <= pa {
-            return 25_000;
-        }
-        return 0;
-    }
-    0
 }

@@ -1,17 +1,18 @@
 // What the rules of death and damage speak of: targets, chances with their judgement, and how a fire's duration is counted.
 #![tactic(auto)]
 
+// Classes, outcome kinds, settings and units are numbers, and no enums: `clock_of`, and the functions of people, equipment and vulnerability, answer for every
+// byte, and a target is unpacked from any number.
 pub mod class;
 pub mod outcome;
-pub mod seconds;
 pub mod setting;
-pub mod tenths;
 pub mod unit;
 
 ghost use Rattle.std.specs.Prelude.{◌≡◌};
 ghost use Rattle.terms.specs.Terms.{clock_of};
 
-// A chance in millionths, and whether a rule judged it: where none did, the chance is 0.
+// A chance in millionths, and whether a rule judged it: where none did, the chance is 0. The flag beside the chance stays: the theorems on `effect_on` speak of
+// both fields.
 #[derive(Clone, Copy)]
 pub struct Judged {
     pub chance: u32,
@@ -26,28 +27,39 @@ pub struct Target {
     pub volume: u32,
 }
 
-// How a fire's duration is counted: the longest that counts for people, what their probit takes off, and what it has to exceed to damage equipment.
+// How a fire's duration is counted (document 01, "Chance of death" and "Chance of damage").
 #[derive(Clone, Copy)]
 pub struct Clock {
+    // the longest time that people are in a fire
     pub longest: u16,
+    // what the probit of death in a fire takes off, in millionths
     pub constant: u32,
+    // only a longer fire damages equipment
     pub limit: u16,
 }
 
+impl Clock {
+    // fires timed in whole seconds
+    pub const SECONDS: Clock = Clock {
+        longest: 20,
+        constant: 36_380_000,
+        limit: 600,
+    };
+    // fires timed in tenths of a second (document 02, request P6)
+    pub const TENTHS: Clock = Clock {
+        longest: 200,
+        constant: 42_274_618,
+        limit: 6_000,
+    };
+}
+
 // The clock of a unit. A number that is no unit has that of seconds.
+#[tactic(auto, unfolding(crate::specs::Terms::clock_of, numeric::specs::Choice::if_eq))]
 pub fn clock_of(unit: u8) -> Clock
     ensures { result ≡ clock_of unit }
 {
-    if unit == unit::TENTHS {
-        return Clock {
-            longest: tenths::LONGEST,
-            constant: tenths::CONSTANT,
-            limit: tenths::LIMIT,
-        };
-    }
-    Clock {
-        longest: seconds::LONGEST,
-        constant: seconds::CONSTANT,
-        limit: seconds::LIMIT,
+    match unit {
+        unit::TENTHS => Clock::TENTHS,
+        _ => Clock::SECONDS,
     }
 }

@@ -9,59 +9,40 @@ ghost use Rattle.counting.specs.Kinds.{with_kinds};
 use state::Core;
 
 // A pending tree in one number: its frequency and the branchings above it.
+#[tactic(auto, unfolding(model::specs::Machine::packed))]
 fn pack(frequency: u64, above: u8) -> u64
     ensures { result ≡ packed frequency above }
 {
-    if frequency < 1_152_921_504_606_846_976 {
-        return frequency * 16 + (above % 16) as u64;
-    }
-    18_446_744_073_709_551_615
-}
-
-// Both branches of a tree, packed, under one branching more.
-#[derive(Clone, Copy)]
-struct PackedBranches {
-    pub first: u64,
-    pub second: u64,
-}
-
-fn pack_branches(tree: u64, chance: u32) -> PackedBranches
-    ensures { (result.first ≡ packed (split_of (frequency_of tree) chance).first (above_of tree + 1)) × (result.second ≡ packed (split_of (frequency_of tree) chance).second (above_of tree + 1)) }
-{
-    let above = (tree % 16) as u8 + 1;
-    let both = numeric::split(tree / 16, chance);
-    let first = pack(both.first, above);
-    let second = pack(both.second, above);
-    PackedBranches {
-        first: first,
-        second: second,
+    if frequency <= u64::MAX / 16 {
+        frequency * 16 + (above % 16) as u64
+    } else {
+        u64::MAX
     }
 }
 
 // A store among the nine pending trees; nothing past them.
-fn put_tree(l: &mut [u64; 9], at: u8, v: u64)
-    ensures { l.new ≡ store 9 l.old at v }
+#[tactic(auto, unfolding(model::specs::Machine::store, numeric::specs::Choice::if_lt))]
+fn put_tree(stack: &mut [u64; 9], at: u8, tree: u64)
+    ensures { stack.new ≡ store 9 stack.old at tree }
 {
     let i = at as usize;
-    if i < 9 {
-        l[i] = v;
+    if i < stack.len() {
+        stack[i] = tree;
     }
 }
 
 // The next tree, packed; 0 where there is none.
+#[tactic(auto, unfolding(model::specs::Machine::top, numeric::specs::Choice::if_eq, numeric::specs::Choice::if_le))]
 pub fn next_tree(l: &[u64; 9], height: u8) -> u64
     ensures { result ≡ top l.now height }
 {
-    if height == 0 {
-        return 0;
+    match height {
+        1..=9 => l[height as usize - 1],
+        _ => 0,
     }
-    if height <= 9 {
-        let i = (height - 1) as usize;
-        return l[i];
-    }
-    0
 }
 
+#[tactic(auto, unfolding(model::specs::Machine::leak_stack))]
 pub fn take_leak(c: Core, number: u32, frequency: u64, stack: &mut [u64; 9]) -> Core
     ensures value { result ≡ core (taken c.reading open_phase) (one_leak c.counts number frequency) (leak_branch c.branch frequency) c.tally }
     ensures stack_after { stack.new ≡ leak_stack stack.old frequency }
@@ -70,28 +51,23 @@ pub fn take_leak(c: Core, number: u32, frequency: u64, stack: &mut [u64; 9]) -> 
     counting::core_leak(c, number, frequency)
 }
 
-fn one_less(x: u8) -> u8
-    ensures { result ≡ x - 1 }
-{
-    if x == 0 { 0 } else { x - 1 }
-}
-
-// The second branch in the place of the next tree, and the first branch upon it.
+// The second branch in the place of the next tree, and the first branch upon it, both under one branching more.
+#[tactic(auto, unfolding(model::specs::Machine::branch_stack))]
 fn branch_stack(stack: &mut [u64; 9], height: u8, chance: u32)
     ensures { stack.new ≡ branch_stack stack.old height chance }
 {
     let tree = next_tree(stack, height);
-    let both = pack_branches(tree, chance);
-    put_tree(stack, one_less(height), both.second);
-    put_tree(stack, height, both.first);
+    let above = (tree % 16) as u8 + 1;
+    let both = numeric::split(tree / 16, chance);
+    put_tree(stack, height.saturating_sub(1), pack(both.second, above));
+    put_tree(stack, height, pack(both.first, above));
 }
 
 pub fn take_branching(c: Core, chance: u32, stack: &mut [u64; 9]) -> Core
     ensures value { result ≡ core (taken c.reading open_phase) (one_record c.counts) (branched_branch c.branch) c.tally }
     ensures stack_after { stack.new ≡ branch_stack stack.old c.branch.height chance }
 {
-    let b = c.branch;
-    branch_stack(stack, b.height, chance);
+    branch_stack(stack, c.branch.height, chance);
     counting::core_branching(c)
 }
 
@@ -100,7 +76,6 @@ pub fn take_outcome(c: Core, kind: u8, effects: u16, stack: &[u64; 9], kinds: &m
     ensures kinds_after { with_kinds result kinds.new ≡ core (taken c.reading open_phase) (one_record c.counts) (outcome_branch c.branch (top stack.now c.branch.height) kind effects) (outcome_tally (with_kinds c kinds.old).tally kind (frequency_of (top stack.now c.branch.height))) }
     ensures tally_value { result.tally ≡ c.tally }
 {
-    let b = c.branch;
-    let tree = next_tree(stack, b.height);
+    let tree = next_tree(stack, c.branch.height);
     counting::core_outcome(c, tree, kind, effects, kinds)
 }

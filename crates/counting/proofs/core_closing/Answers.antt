@@ -1,6 +1,0 @@
--- `counting::core_closing` meets its contract. Assumes nothing.
-use mathlib.Core.Path.{refl}
-use Rattle.counting.proofs.core_closing.Goals as goal
-
-pub returns : goal.returns
-returns c = rw (c.take-h.ensures, c.count_record-k.ensures) refl
