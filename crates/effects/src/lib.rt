@@ -82,7 +82,7 @@ fn with_unit(unit: u8, top: usize, bytes: &[u8]) -> usize
     while n < top {
         let at = n * 10;
         let p = &bytes[at..at + 16];
-        if decoding::byte_at_9(p) != unit {
+        if decoding::byte_at(p, 9) != unit {
             return n;
         }
         n += 1;
@@ -98,7 +98,7 @@ fn run_of(kind: u8, most: u32, bytes: &[u8]) -> Run
 {
     let top = reach(most, bytes.len());
     if kind == record::TIMED_EFFECT {
-        let unit = decoding::byte_at_9(bytes);
+        let unit = decoding::byte_at(bytes, 9);
         let alike = with_unit(unit, top, bytes);
         return Run {
             timing: Timing {
@@ -288,7 +288,7 @@ fn blast_row(
 fn past_rows(targets: u16, kind: u8, next: u32, t: u16, q: u32, d: u16) -> Step
     ensures { (result.next ≡ if_eq (effect_fault targets kind next t q d) 0 (t + 1) 0) × (result.missed ≡ 0) }
 {
-    if faults::effect_fault(targets, kind, next, t, q, d) == 0 {
+    if faults::effect_fault(targets, kind, next, t, q, d).is_ok() {
         return Step {
             next: (t as u32) + 1,
             missed: 0,
@@ -314,10 +314,10 @@ fn fire(
     ensures next_value { (result.next ≡ next_in (get_or p.now 0 0) targets b next p.now) × (result.missed ≤ 1) }
     ensures taking { Taking (effect_on clock) (get_or p.now 0 0) targets b next p.now sums.old margins.old facts.old result.missed sums.new margins.new facts.new }
 {
-    let t = decoding::half_at_1(p);
-    let q = decoding::word_at_3(p);
-    let d = decoding::half_at_7(p);
-    if faults::effect_fault(limit, b.kind, next, t, q, d) == 0 {
+    let t = decoding::half_at(p, 1);
+    let q = decoding::word_at(p, 3);
+    let d = decoding::half_at(p, 7);
+    if faults::effect_fault(limit, b.kind, next, t, q, d).is_ok() {
         let missed = fire_row(b, clock, t as usize, q, d, sums, margins, facts);
         return Step {
             next: (t as u32) + 1,
@@ -341,10 +341,10 @@ fn flash(
     ensures next_value { (result.next ≡ next_in (get_or p.now 0 0) targets b next p.now) × (result.missed ≤ 1) }
     ensures taking { (clock : Clock) → Taking (effect_on clock) (get_or p.now 0 0) targets b next p.now sums.old margins.old facts.old result.missed sums.new margins.new facts.new }
 {
-    let t = decoding::half_at_1(p);
-    let q = decoding::word_at_3(p);
-    let d = decoding::half_at_7(p);
-    if faults::effect_fault(limit, b.kind, next, t, q, d) == 0 {
+    let t = decoding::half_at(p, 1);
+    let q = decoding::word_at(p, 3);
+    let d = decoding::half_at(p, 7);
+    if faults::effect_fault(limit, b.kind, next, t, q, d).is_ok() {
         flash_row(b, t as usize, q, d, sums, margins, facts);
         return Step {
             next: (t as u32) + 1,
@@ -368,10 +368,10 @@ fn blast(
     ensures next_value { (result.next ≡ next_in (get_or p.now 0 0) targets b next p.now) × (result.missed ≤ 1) }
     ensures taking { (clock : Clock) → Taking (effect_on clock) (get_or p.now 0 0) targets b next p.now sums.old margins.old facts.old result.missed sums.new margins.new facts.new }
 {
-    let t = decoding::half_at_1(p);
-    let q = decoding::word_at_3(p);
-    let d = decoding::half_at_7(p);
-    if faults::effect_fault(limit, b.kind, next, t, q, d) == 0 {
+    let t = decoding::half_at(p, 1);
+    let q = decoding::word_at(p, 3);
+    let d = decoding::half_at(p, 7);
+    if faults::effect_fault(limit, b.kind, next, t, q, d).is_ok() {
         blast_row(b, t as usize, q, d, sums, margins, facts);
         return Step {
             next: (t as u32) + 1,

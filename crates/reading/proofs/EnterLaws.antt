@@ -8,27 +8,14 @@ use lib.ListN.{length, get_or, set, length-set}
 use borrow.Author.Tests.{eqb-true}
 use Rattle.numeric.specs.Choice.{pick, if_eq, if_le}
 use Rattle.numeric.proofs.ChoiceLaws.{lt_both, eq_both}
-use Rattle.state.specs.declared.Branch.{Branch}
-use Rattle.state.specs.declared.Core.{Core}
-use Rattle.state.specs.declared.Counts.{Counts}
 use Rattle.state.specs.declared.Reading.{Reading}
-use Rattle.state.specs.declared.Tally.{Tally}
 use Rattle.model.specs.Verdict.{body_length}
-use Rattle.model.specs.Machine.{State, core, state, store, grown, body, ended, step}
+use Rattle.model.specs.Machine.{State, state, store, grown, body, ended, step}
 use Rattle.reading.specs.Entering.{reading_with, pending_with, whole_in, whole_with, entered_with, read_if, StepByParts}
-use Rattle.reading.specs.declared.entering.Entered.{Entered}
 
 pub store_wide : (l : List ℕ) (i v : ℕ) → length (store 16 l i v) ≡ length l
 unfolding store
 store_wide l i v = lt_both (λ (x : List ℕ). length x ≡ length l) i 16 (set l i v) l (length-set l i v) refl
-
--- a core with another name for its reading
-pub core_with : {d : Core} {k : Counts} {b : Branch} {y : Tally} {h j : Reading} → d ≡ core h k b y → h ≡ j → d ≡ core j k b y
-core_with e f = rw (← f) e
-
--- what was entered, by its two parts
-pub entered : {r : Entered} {d : Core} {w : Bool} → r.core ≡ d → r.whole ≡ w → r ≡ record { core = d; whole = w }
-entered e f = rw (← e, ← f) refl
 
 -- as many pending bytes as before
 pub pending_wide : (h : Reading) (p : List ℕ) (b : ℕ) → length (pending_with h p b) ≡ length p

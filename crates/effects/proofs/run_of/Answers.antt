@@ -17,7 +17,7 @@ returns-then-kind-eq-TIMED_EFFECT c =
     let s = r.before.before in
     let eight = sym s.requires ∙ k.if-kind-eq-TIMED_EFFECT.true in
     let l = s.args.bytes.now in
-    ((rw (c.clock_of.ensures, b.byte_at_9-unit.ensures) (timing_eight l eight)), rw (u.with_unit-alike.ensures, b.byte_at_9-unit.ensures, r.reach-top.ensures) (alike_eight l _ eight))
+    ((rw (c.clock_of.ensures, b.byte_at-unit.ensures) (timing_eight l eight)), rw (u.with_unit-alike.ensures, b.byte_at-unit.ensures, r.reach-top.ensures) (alike_eight l _ eight))
 
 pub returns : goal.returns
 returns c =

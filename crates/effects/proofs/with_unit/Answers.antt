@@ -38,9 +38,9 @@ slice_bounds-p-start c = omega arith
 pub slice_bounds-p-end : goal.slice_bounds-p-end
 slice_bounds-p-end c = let s = c.before.before.before.before in omega (arith, c.loop-n-test.true, s.requires)
 
-pub returns-then-byte_at_9-unit : goal.returns-then-byte_at_9-unit
+pub returns-then-byte_at-unit : goal.returns-then-byte_at-unit
 unfolding with_unit
-returns-then-byte_at_9-unit c =
+returns-then-byte_at-unit c =
     let k = c.before in
     let t = k.before.before in
     let v = t.loop-n in
@@ -51,7 +51,7 @@ returns-then-byte_at_9-unit c =
     record {
       within = v.invariant.0;
       passes = v.invariant.1;
-      stops = λ w. sym (ne_case _ _ _ _ (λ e. c.if-byte_at_9-unit.true (sym (read_is l v.n _ k.byte_at_9.ensures) ∙ e)) refl);
+      stops = λ w. sym (ne_case _ _ _ _ (λ e. c.if-byte_at-unit.true (sym (read_is l v.n _ k.byte_at.ensures) ∙ e)) refl);
     })
 
 pub overflow_add-n : goal.overflow_add-n
@@ -69,7 +69,7 @@ loop-n-preserved c =
     let t = k.before.before in
     let v = t.loop-n in
     let l = t.args.bytes.now in
-    (omega (arith, t.loop-n-test.true), passes_more _ v.n v.invariant.1 (sym (eq_case _ _ _ _ (read_is l v.n _ k.byte_at_9.ensures ∙ c.if-byte_at_9-unit.false) refl)))
+    (omega (arith, t.loop-n-test.true), passes_more _ v.n v.invariant.1 (sym (eq_case _ _ _ _ (read_is l v.n _ k.byte_at.ensures ∙ c.if-byte_at-unit.false) refl)))
 
 pub returns : goal.returns
 unfolding with_unit
