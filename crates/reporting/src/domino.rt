@@ -19,21 +19,14 @@ fn refused_domino(number: u8, place: u64) -> DominoReport
 }
 
 // How many of the first n targets are marked.
-#[tactic(auto, using(crate::proofs::MarkLaws::below_none, crate::proofs::MarkLaws::count_in, crate::proofs::MarkLaws::count_out))]
 fn count_marked(facts: &[u64; 256], n: u16) -> usize
     requires { n ≤ most_targets }
     ensures { result ≡ length (numbers_below (λ t. mark_of (get_or facts.now t 0)) n) }
 {
-    let mut count: usize = 0;
-    for t in 0..n {
-        if marked(facts[t as usize]) {
-            count += 1;
-        }
-    }
-    count
+    facts[..n as usize].iter().filter(|f| marked(**f)).count()
 }
 
-// Their numbers, at the front of the list.
+// Their numbers, at the front of the list. The place in the list is counted by hand: a zip with a filter would need the bound of each number in its closure.
 #[tactic(auto, using(crate::proofs::MarkLaws::below_none, crate::proofs::MarkLaws::front_none, crate::proofs::MarkLaws::front_length))]
 fn fill_marked(facts: &[u64; 256], n: u16, list: &mut [u16])
     requires n_le_most_targets { n ≤ most_targets }

@@ -22,7 +22,7 @@ pub struct Refused {
     pub place: u64,
 }
 
-// The place of a closed study, which its reports name. Others have a kept refusal, or are not closed.
+// The place of a closed study, which its reports name. Other studies have a kept refusal, or are not closed.
 #[tactic(auto, unfolding(crate::specs::Closed::closed_at, numeric::specs::Choice::if_eq))]
 pub fn closed(h: Reading) -> Result<u64, Refused>
     ensures { result ≡ closed_at h }

@@ -8,7 +8,7 @@ ghost use Rattle.model.specs.Machine.{core, open_phase, taken, one_target, store
 
 use state::Core;
 
-// A store among the facts of all targets; nothing past their end.
+// A store among the facts of all targets; nothing past their end. By index, as `put_tree` of trees.
 #[tactic(auto, unfolding(model::specs::Machine::store, numeric::specs::Choice::if_lt))]
 fn put_facts(facts: &mut [u64; 256], target: u16, packed: u64)
     ensures { facts.new ≡ store most_targets facts.old target packed }
