@@ -12,7 +12,8 @@ pub(crate) fn tally_study(y: Tally, number: u32) -> Tally
     Tally { study: number, ..y }
 }
 
-// The total of an outcome's kind grows by its frequency; a number that is no kind has no total.
+// The total of an outcome's kind grows by its frequency; a number that is no kind has no total. By index: tried with `get_mut`,
+// and the proof did not close.
 #[tactic(auto, using(crate::proofs::KindTotalLaws::kind_set, crate::proofs::KindTotalLaws::kind_none))]
 pub(crate) fn grow_kind(kinds: &mut [u64; 6], kind: u8, frequency: u64)
     ensures { (j : ℕ) → j < 6 → get_or kinds.new j 0 ≡ kind_grown kind j frequency (get_or kinds.old j 0) }
@@ -23,7 +24,7 @@ pub(crate) fn grow_kind(kinds: &mut [u64; 6], kind: u8, frequency: u64)
     }
 }
 
-// The six totals of the kinds in an array: which one grows cannot be foreseen.
+// The six totals of the kinds in an array: which one grows cannot be foreseen. `Tally` has a field for each, of which the machine's definitions speak.
 pub fn kinds_of(y: Tally) -> [u64; 6]
     ensures { result ≡ kinds_of y }
 {

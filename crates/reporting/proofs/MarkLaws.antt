@@ -6,9 +6,10 @@ use Prim.Native.Nat.{ℕ, zero, suc, ◌+◌, ◌-◌, ◌<◌, ◌≤◌}
 use native.Mathlib.Numerals.{add-one}
 use native.Mathlib.Nat.{add-zero, add-suc, le_refl, add-sub_of_le}
 use native.Mathlib.Omega.{arith}
-use lib.ListN.{length, get_or, drop, set, length-append, length-drop}
+use lib.ListN.{length, get_or, drop, set, take, length-append, length-drop}
+use Rattle.std.specs.List.{count_by}
+use Rattle.std.proofs.lemmas.List.Sums.{count_by_more_yes, count_by_more_no}
 use lib.Seq.{drop-cons, set_at}
-use Rattle.numeric.specs.Choice.{pick}
 use Rattle.model.specs.Sums.{numbers_below}
 use Rattle.model.specs.Calls.{front}
 
@@ -43,15 +44,6 @@ module _ (g : ℕ → Bool) where
   pub count_below : (n k : ℕ) → n ≤ k → length (numbers_below g n) ≤ length (numbers_below g k)
   count_below n k h = rw (add-sub_of_le h) at (count_mono n (k - n))
 
-  pub count_le : (n : ℕ) → length (numbers_below g n) ≤ n
-  unfolding numbers_below
-  count_le zero = le_refl 0
-  count_le (suc n) = go (g n) (count_le n)
-    where
-      go : (b : Bool) → length (numbers_below g n) ≤ n → length (numbers_below g n ++ pick b (n ∷ []) []) ≤ suc n
-      go true h = rw length-append (omega arith)
-      go false h = rw length-append (omega arith)
-
   -- a list whose front is the first numbers, with one store more
   module _ (d : List ℕ) where
     pub front_none : front (numbers_below g 0) d ≡ d
@@ -81,3 +73,14 @@ module _ (g : ℕ → Bool) where
         let c = count_in t h in
         let m : length (numbers_below g (t + 1)) ≤ length (numbers_below g n) = count_below (t + 1) n (omega arith) in
         (omega arith, ap length q ∙ front_length t (omega arith))
+
+-- the first numbers of a list that pass a test are as many as their places
+module _ (p : ℕ → Bool) (l : List ℕ) where
+  pub count_marks : (n : ℕ) → n ≤ length l → count_by p (take n l) ≡ length (numbers_below (λ t. p (get_or l t 0)) n)
+  count_marks zero h = ap length (sym (below_none _))
+  count_marks (suc n) h = go (count_marks n (omega arith)) (p (get_or l n 0)) refl
+    where
+      go : count_by p (take n l) ≡ length (numbers_below (λ t. p (get_or l t 0)) n) → (b : Bool) → p (get_or l n 0) ≡ b
+          → count_by p (take (suc n) l) ≡ length (numbers_below (λ t. p (get_or l t 0)) (suc n))
+      go ih true e = let a = count_by_more_yes p l n 0 (omega arith) e in let b = count_in (λ t. p (get_or l t 0)) n e in rw (add-one) at (a ∙ ap (λ (x : ℕ). x + 1) ih ∙ sym b)
+      go ih false e = let a = count_by_more_no p l n 0 (omega arith) e in let b = count_out (λ t. p (get_or l t 0)) n e in rw (add-one) at (a ∙ ih ∙ sym b)

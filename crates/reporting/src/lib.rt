@@ -9,62 +9,84 @@ ghost use Rattle.terms.specs.Terms.{people};
 ghost use Rattle.model.specs.Calls.{no_totals, no_target};
 ghost use Rattle.model.specs.Report.{grade_of};
 ghost use Rattle.model.specs.Machine.{totals_in, row_report, mark_of};
+ghost use Rattle.reporting.specs.Closed.{closed_at};
 
 pub use domino::report_domino;
-use state::{Core, Row, TargetReport, Totals, phase};
+use state::{Core, Reading, Refusal, Row, TargetReport, Totals, phase};
 use terms::class;
+
+// What a report says no with: a number, and the place that it names.
+#[derive(Clone, Copy)]
+pub struct Refused {
+    pub number: u8,
+    pub place: u64,
+}
+
+// The place of a closed study, which its reports name. Other studies have a kept refusal, or are not closed.
+#[tactic(auto, unfolding(crate::specs::Closed::closed_at, numeric::specs::Choice::if_eq))]
+pub fn closed(h: Reading) -> Result<u64, Refused>
+    ensures { result ≡ closed_at h }
+{
+    match h.phase {
+        phase::CLOSED => Ok(h.place),
+        phase::REFUSED => Err(Refused {
+            number: h.number,
+            place: h.at,
+        }),
+        _ => Err(Refused {
+            number: Refusal::NotClosed.number(),
+            place: h.place,
+        }),
+    }
+}
 
 pub fn least(x: u16, y: u16) -> u16
     ensures { result ≡ min x y }
 {
-    if x <= y { x } else { y }
+    x.min(y)
 }
 
 fn refused_totals(number: u8, place: u64) -> Totals
     ensures { result ≡ no_totals number place }
 {
     Totals {
-        number: number,
-        place: place,
+        number,
+        place,
         study: 0,
         records: 0,
         leaks: 0,
-        kinds: [0, 0, 0, 0, 0, 0],
+        kinds: [0; 6],
         unjudged: 0,
         targets: 0,
     }
 }
 
+#[tactic(auto, unfolding(model::specs::Machine::totals_in, crate::specs::Closed::closed_at, numeric::specs::Choice::if_eq))]
 pub fn report_totals(c: Core) -> Totals
     ensures { result ≡ totals_in c }
 {
-    let h = c.reading;
-    let k = c.counts;
     let y = c.tally;
-    if h.phase == phase::REFUSED {
-        return refused_totals(h.number, h.at);
-    }
-    if h.phase == phase::CLOSED {
-        return Totals {
+    match closed(c.reading) {
+        Ok(place) => Totals {
             number: 0,
-            place: h.place,
+            place,
             study: y.study,
-            records: k.records,
-            leaks: k.leaks,
+            records: c.counts.records,
+            leaks: c.counts.leaks,
             kinds: [y.kind0, y.kind1, y.kind2, y.kind3, y.kind4, y.kind5],
             unjudged: y.unjudged,
-            targets: k.targets,
-        };
+            targets: c.counts.targets,
+        },
+        Err(refused) => refused_totals(refused.number, refused.place),
     }
-    refused_totals(8, h.place)
 }
 
 pub fn refused_target(number: u8, place: u64) -> TargetReport
     ensures { result ≡ no_target number place }
 {
     TargetReport {
-        number: number,
-        place: place,
+        number,
+        place,
         sum: 0,
         margin: 0,
         class: 0,
@@ -74,59 +96,50 @@ pub fn refused_target(number: u8, place: u64) -> TargetReport
 }
 
 // The grade of a sum at a place of people.
+#[tactic(auto, unfolding(model::specs::Report::grade_of, numeric::specs::Choice::if_le))]
 fn grade(sum: u64) -> u8
     ensures { result ≡ grade_of sum }
 {
-    if 10_000_000_000 <= sum {
-        return 6;
+    match sum {
+        10_000_000_000.. => 6,
+        1_000_000_000.. => 5,
+        100_000_000.. => 4,
+        10_000_000.. => 3,
+        1_000_000.. => 2,
+        100_000.. => 1,
+        _ => 0,
     }
-    if 1_000_000_000 <= sum {
-        return 5;
-    }
-    if 100_000_000 <= sum {
-        return 4;
-    }
-    if 10_000_000 <= sum {
-        return 3;
-    }
-    if 1_000_000 <= sum {
-        return 2;
-    }
-    if 100_000 <= sum {
-        return 1;
-    }
-    0
 }
 
 // Whether a target's facts are marked.
+#[tactic(auto, unfolding(numeric::specs::Choice::if_eq))]
 pub fn marked(facts: u64) -> bool
     ensures { result ≡ mark_of facts }
 {
-    if facts % 2 == 1 {
-        return true;
-    }
-    false
+    facts % 2 == 1
 }
 
+#[tactic(auto, unfolding(numeric::specs::Choice::if_eq))]
 fn grade_of_class(class: u8, sum: u64) -> u8
     ensures { result ≡ if_eq class people (grade_of sum) 0 }
 {
-    if class == class::PEOPLE {
-        return grade(sum);
+    match class {
+        class::PEOPLE => grade(sum),
+        _ => 0,
     }
-    0
 }
 
+#[tactic(auto, unfolding(model::specs::Machine::row_report))]
 pub fn report_row(place: u64, w: Row) -> TargetReport
     ensures { result ≡ row_report place w }
 {
     let class = (w.facts / 8 % 8) as u8;
     TargetReport {
         number: 0,
-        place: place,
+        place,
         sum: w.sum,
         margin: w.margin,
-        class: class,
+        class,
         grade: grade_of_class(class, w.sum),
         listed: marked(w.facts),
     }

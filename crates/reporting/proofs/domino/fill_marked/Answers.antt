@@ -1,17 +1,14 @@
 -- `reporting::domino::fill_marked` meets its contract: after t targets the marked ones below t are at the front of the list. Assumes nothing.
-use mathlib.Core.Path.{◌≡◌, sym, ap, ◌∙◌}
+use mathlib.Core.Path.{sym, ap, ◌∙◌}
 use mathlib.Core.Bool.{Bool}
 use mathlib.Core.List.{List}
 use Prim.Native.Nat.{ℕ}
 use native.Mathlib.Omega.{arith}
-use lib.ListN.{length, get_or, set}
+use lib.ListN.{get_or, set}
 use Rattle.model.specs.Machine.{mark_of}
-use Rattle.reporting.proofs.MarkLaws.{below_none, count_in, count_out, front_none, front_in, front_out, front_length, room}
+use Rattle.reporting.proofs.MarkLaws.{count_in, count_out, front_in, front_out, room}
 use Rattle.reporting.proofs.domino.fill_marked.Goals as goal
 use Rattle.reporting.proofs.domino.fill_marked.Goals.{then-marked, else-marked}
-
-pub loop-t-init : goal.loop-t-init
-loop-t-init c = (omega arith, ap length (sym (below_none _)), sym (front_none _ _))
 
 pub offset_bounds-list-count : goal.offset_bounds-list-count
 offset_bounds-list-count c =
@@ -50,13 +47,3 @@ loop-t-preserved c =
           let h = count_out g v.t (sym e ∙ w.if-marked.false) in
           (omega arith, omega arith, w.list-is ∙ v.invariant.2 ∙ front_out g l v.t (sym e ∙ w.if-marked.false))
     ]
-
-pub shape_of-list : goal.shape_of-list
-shape_of-list c =
-    let e : ◌≡◌ {A = ℕ} c.loop-t.t c.args.n = omega arith in
-    ap length c.loop-t.invariant.2 ∙ front_length _ _ _ (rw e c.requires.n_in_bounds)
-
-pub returns : goal.returns
-returns c =
-    let e : ◌≡◌ {A = ℕ} c.loop-t.t c.args.n = omega arith in
-    rw (← e) c.loop-t.invariant.2
