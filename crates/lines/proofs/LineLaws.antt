@@ -1,12 +1,11 @@
 -- A word behind a line's text. Assumes nothing.
-use Rattle.std.proofs.Common.{◌≡◌, refl, sym, ap, ◌∙◌, Bool, true, false, eqb, List, [], ◌++◌, append_assoc, append-nil, ℕ, ◌+◌, ◌-◌, ◌^◌, ◌≤◌, ◌<◌, min, length, take, drop, set, get_or, zero-add, add-one, arith, lit≤, length-append, length-take, length-take-le, take_all}
+use Rattle.std.proofs.Common.{◌≡◌, refl, sym, ap, ◌∙◌, Bool, true, false, eqb, List, [], ◌++◌, append_assoc, append-nil, ℕ, ◌+◌, ◌-◌, ◌^◌, ◌≤◌, ◌<◌, min, length, take, drop, arith, lit≤, length-append, length-take, take_all}
 use Rattle.std.proofs.Math.Nat.{min-eq_left, min-eq_right}
 use Rattle.std.proofs.Math.Decide.{dec_le}
-use Rattle.std.proofs.Math.Seq.{paste, paste-suc, take-length}
-use Rattle.std.proofs.lemmas.List.Edits.{take-paste}
-use Rattle.io.specs.Counts.{IsPrefixLen}
+use Rattle.std.proofs.lemmas.Slice.{take-put_mid}
+use borrow.Rule.Slice.PartMut.{put_mid}
 use Rattle.numeric.specs.Choice.{pick, if_eq, if_le}
-use Rattle.numeric.proofs.ChoiceLaws.{le_case, gt_case, eq_both}
+use Rattle.numeric.proofs.ChoiceLaws.{eq_case, ne_case, le_case, gt_case, eq_both}
 use Rattle.state.specs.declared.TargetReport.{TargetReport}
 use Rattle.lines.specs.Text.{appended, decimal, end_word, grade_word, domino_word, judged_words}
 use Rattle.lines.proofs.NumeralLaws.{decimal_length}
@@ -36,12 +35,12 @@ take_count text len e = length-take len text ∙ ap (min len) e
 
 module _ (text : List ℕ) (len at : ℕ) (w : List ℕ) (e : length text ≡ 256) (a : at ≡ min len 256) where
   -- the word copied behind the text
-  pub word_fits : length w ≤ 256 - at → take (at + length w) (paste text at w (length w)) ≡ appended (take len text) w
-  word_fits h =
+  pub word_fits : (copy : List ℕ) → copy ≡ w → length w ≤ 256 - at → take (at + length w) (put_mid at (at + length w - at) text copy) ≡ appended (take len text) w
+  word_fits copy s h =
       let k : length (take len text) ≡ at = take_count text len e ∙ sym a in
       let b : at ≤ 256 = omega arith in
-      take-paste text at w (length w) (omega arith) (omega arith)
-      ∙ ap (λ (x : List ℕ). take at text ++ x) (take-length w)
+      take-put_mid at (at + length w - at) text copy (at + length w) (omega (arith, ap length s)) (omega arith)
+      ∙ ap (λ (x : List ℕ). take at text ++ x) s
       ∙ ap (λ (x : List ℕ). x ++ w) (ap (λ (n : ℕ). take n text) a ∙ take_least text len e)
       ∙ sym (append_fits (take len text) w (omega arith))
 
@@ -82,6 +81,13 @@ short_pick false x y p q = q
 -- what stands after the margin, behind a text
 abbrev pub judged : List ℕ → TargetReport → List ℕ
 judged t r = if_eq r.class 0 (figure t grade_word r.grade) (pick r.listed (appended t domino_word) t)
+
+-- by the class, and by the list
+pub of_people : (m : ℕ) (b : Bool) (x y z : List ℕ) → m ≡ 0 → x ≡ if_eq m 0 x (pick b y z)
+of_people m b x y z h = eq_case _ _ _ _ h refl
+
+pub of_equipment : (m : ℕ) (b : Bool) (x y z : List ℕ) → (m ≡ 0 → ⊥) → pick b y z ≡ if_eq m 0 x (pick b y z)
+of_equipment m b x y z h = ne_case _ _ _ _ h refl
 
 -- on a text of at most 90 bytes
 module _ (r : TargetReport) (f : r.grade < 2 ^ 64) where
@@ -159,19 +165,11 @@ module _ (text : List ℕ) (len n : ℕ) (out : List ℕ) (e : length text ≡ 2
   pub put_count : n ≤ length out → n ≡ if_le (length (take len text)) (length out) (length (take len text)) 0
   put_count h = le_case _ _ _ _ (let k = text_count in omega arith) (sym text_count)
 
-  put_is : paste out 0 text n ≡ after
-  put_is =
-      rw (zero-add n)
-      (ap (λ (x : List ℕ). x ++ drop n out) (ap (λ (k : ℕ). take k text) a ∙ take_least text len e)
+  pub put_list : (copy : List ℕ) → copy ≡ take n text → n ≤ length out → copy ++ drop n out ≡ if_le (length (take len text)) (length out) after out
+  put_list copy s h =
+      le_case _ _ _ _ (let k = text_count in omega arith)
+      (ap (λ (x : List ℕ). x ++ drop n out) (s ∙ ap (λ (k : ℕ). take k text) a ∙ take_least text len e)
       ∙ ap (λ (k : ℕ). take len text ++ drop k out) (sym text_count))
-
-  pub put_list : n ≤ length out → paste out 0 text n ≡ if_le (length (take len text)) (length out) after out
-  put_list h = le_case _ _ _ _ (let k = text_count in omega arith) put_is
-
-  pub put_counts : n ≤ length out → IsPrefixLen n (paste out 0 text n)
-  put_counts h =
-      let l : n ≤ length (paste out 0 text n) = rw put_is (rw length-append (let k = text_count in omega arith)) in
-      (l, sym (length-take-le n (paste out 0 text n) l))
 
   -- a list that is too short
   pub short_count : length out < n → 0 ≡ if_le (length (take len text)) (length out) (length (take len text)) 0
@@ -179,13 +177,3 @@ module _ (text : List ℕ) (len n : ℕ) (out : List ℕ) (e : length text ≡ 2
 
   pub short_list : length out < n → out ≡ if_le (length (take len text)) (length out) after out
   short_list h = gt_case _ _ _ _ (let k = text_count in omega arith) refl
-
--- a turn of a copy
-pub copy_turn : (d : List ℕ) (at : ℕ) (s l : List ℕ) (i : ℕ) → l ≡ paste d at s i → at + i < length d → i < length s
-    → set l (at + i) (get_or s i 0) ≡ paste d at s (i + 1)
-copy_turn d at s l i e h k = rw (add-one i) (ap (λ (x : List ℕ). set x (at + i) (get_or s i 0)) e ∙ paste-suc d at s i 0 h k)
-
-pub front_turn : (d s l : List ℕ) (i : ℕ) → l ≡ paste d 0 s i → i < length d → i < length s → set l i (get_or s i 0) ≡ paste d 0 s (i + 1)
-front_turn d s l i e h k =
-    let z = zero-add i in
-    ap (λ (j : ℕ). set l j (get_or s i 0)) (sym z) ∙ copy_turn d 0 s l i e (omega arith) k

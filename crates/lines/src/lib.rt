@@ -1,8 +1,7 @@
 // The lines of the report's text (document 01, "The specimen study"), each as bytes by value.
 #![tactic(auto)]
 
-ghost use Rattle.std.specs.Prelude.{◌≡◌, [], ◌++◌, ◌+◌, ◌≤◌, min, length, drop};
-ghost use Rattle.std.proofs.Math.Seq.{paste};
+ghost use Rattle.std.specs.Prelude.{◌≡◌, [], ◌++◌, length, drop};
 ghost use Rattle.io.specs.Counts.{IsPrefixLen};
 ghost use Rattle.numeric.specs.Choice.{pick, if_eq, if_le};
 ghost use Rattle.terms.specs.Terms.{people};
@@ -11,43 +10,11 @@ ghost use Rattle.lines.specs.Text.{text_of, appended, decimal, grade_word, domin
 use state::{TargetReport, Totals};
 use terms::class;
 
-// A line of text: the first len bytes of the array.
+// A line of text: the first len bytes of the array. An array and a length, not a String: the desk keeps nothing on a heap.
 #[derive(Clone, Copy)]
 pub struct Line {
     text: [u8; 256],
     len: usize,
-}
-
-fn least(x: usize, y: usize) -> usize
-    ensures { result ≡ min x y }
-{
-    if x <= y { x } else { y }
-}
-
-// The array with a word from the index at on.
-fn with_word(text: [u8; 256], at: usize, word: &[u8]) -> [u8; 256]
-    requires { at + length word.now ≤ 256 }
-    ensures { result ≡ paste text at word.now (length word.now) }
-{
-    let mut out = text;
-    let mut i = 0;
-    while i < word.len() {
-        out[at + i] = word[i];
-        i += 1;
-    }
-    out
-}
-
-// The first n bytes of the array at the front of a list.
-fn copy_front(text: [u8; 256], n: usize, out: &mut [u8])
-    requires { (n ≤ 256) × (n ≤ length out.old) }
-    ensures { out.new ≡ paste out.old 0 text n }
-{
-    let mut i = 0;
-    while i < n {
-        out[i] = text[i];
-        i += 1;
-    }
 }
 
 impl Line {
@@ -65,14 +32,12 @@ impl Line {
     fn word(self, word: &[u8]) -> Line
         ensures { text_of result ≡ appended (text_of self) word.now }
     {
-        let at = least(self.len, 256);
+        let at = self.len.min(256);
         let n = word.len();
         if n <= 256 - at {
-            let text = self.text;
-            return Line {
-                text: with_word(text, at, word),
-                len: at + n,
-            };
+            let mut text = self.text;
+            text[at..at + n].copy_from_slice(word);
+            return Line { text, len: at + n };
         }
         self
     }
@@ -92,10 +57,9 @@ impl Line {
         ensures out_after { out.new ≡ if_le (length (text_of self)) (length out.old) (text_of self ++ drop (length (text_of self)) out.old) out.old }
         ensures prefix_len { IsPrefixLen result out.new }
     {
-        let n = least(self.len, 256);
+        let n = self.len.min(256);
         if n <= out.len() {
-            let text = self.text;
-            copy_front(text, n, out);
+            out[..n].copy_from_slice(&self.text[..n]);
             return n;
         }
         0
@@ -109,17 +73,17 @@ impl Line {
     }
 
     // What stands after a target's margin.
+    #[tactic(auto, using(crate::proofs::LineLaws::of_people, crate::proofs::LineLaws::of_equipment))]
     fn judged(self, r: TargetReport) -> Line
         ensures { text_of result ≡ if_eq r.class people (appended (appended (text_of self) grade_word) (decimal r.grade)) (pick r.listed (appended (text_of self) domino_word) (text_of self)) }
     {
-        let of_people = r.class == class::PEOPLE;
-        if of_people {
-            return self.figure(b" grade ", r.grade as u64);
+        if r.class == class::PEOPLE {
+            self.figure(b" grade ", r.grade as u64)
+        } else if r.listed {
+            self.word(b" domino")
+        } else {
+            self
         }
-        if r.listed {
-            return self.word(b" domino");
-        }
-        self
     }
 }
 

@@ -96,24 +96,25 @@ module _ (f : ℕ → TargetReport) (t : Totals) where
       ∙ closed_next (length (kind_lines t.kinds) + n)
       ∙ get_or-append-add (kind_lines t.kinds) rest n []
 
-  rest_at : (i : ℕ) → 7 ≤ i → get_or (closed_lines f t) i [] ≡ get_or rest (i - 7) []
-  rest_at i h = let e : i ≡ 7 + (i - 7) = omega arith in ap (λ (j : ℕ). get_or (closed_lines f t) j []) e ∙ closed_rest (i - 7)
+  pub closed_target : (n : ℕ) → n < t.targets → get_or (closed_lines f t) (7 + n) [] ≡ target_line n (f n)
+  closed_target n l =
+      closed_rest n
+      ∙ get_or-append (target_lines f t.targets) (unjudged_line t.unjudged ∷ []) [] n (omega (arith, targets_length f t.targets))
+      ∙ target_at_lem f t.targets n l
 
-  pub closed_target : (i : ℕ) → 7 ≤ i → i - 7 < t.targets → get_or (closed_lines f t) i [] ≡ target_line (i - 7) (f (i - 7))
-  closed_target i h l =
-      rest_at i h
-      ∙ get_or-append (target_lines f t.targets) (unjudged_line t.unjudged ∷ []) [] (i - 7) (omega (arith, targets_length f t.targets))
-      ∙ target_at_lem f t.targets (i - 7) l
-
-  pub closed_last : (i : ℕ) → 7 ≤ i → i - 7 ≡ t.targets → get_or (closed_lines f t) i [] ≡ unjudged_line t.unjudged
-  closed_last i h e =
-      rest_at i h ∙ get_or_at (target_lines f t.targets) (unjudged_line t.unjudged) [] [] (i - 7) (targets_length f t.targets ∙ sym e)
+  pub closed_last : (n : ℕ) → n ≡ t.targets → get_or (closed_lines f t) (7 + n) [] ≡ unjudged_line t.unjudged
+  closed_last n e =
+      closed_rest n ∙ get_or_at (target_lines f t.targets) (unjudged_line t.unjudged) [] [] n (targets_length f t.targets ∙ sym e)
 
   rest_length : length rest ≡ t.targets + 1
   rest_length = length-append (target_lines f t.targets) (unjudged_line t.unjudged ∷ []) ∙ ap (λ (n : ℕ). n + 1) (targets_length f t.targets)
 
-  pub closed_past : (i : ℕ) → 7 ≤ i → t.targets < i - 7 → get_or (closed_lines f t) i [] ≡ []
-  closed_past i h l = rest_at i h ∙ get_or-eq_default rest [] {n = i - 7} (omega (arith, rest_length))
+  pub closed_past : (n : ℕ) → t.targets < n → get_or (closed_lines f t) (7 + n) [] ≡ []
+  closed_past n l = closed_rest n ∙ get_or-eq_default rest [] {n = n} (omega (arith, rest_length))
+
+  -- the lines after the kinds, counted from the seventh
+  pub closed_after : (i : ℕ) → 7 ≤ i → get_or (closed_lines f t) (7 + (i - 7)) [] ≡ get_or (closed_lines f t) i []
+  closed_after i h = let e : 7 + (i - 7) ≡ i = omega arith in ap (λ (j : ℕ). get_or (closed_lines f t) j []) e
 
   pub closed_length : length (closed_lines f t) ≡ 8 + t.targets
   unfolding closed_lines

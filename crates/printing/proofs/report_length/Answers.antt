@@ -6,11 +6,11 @@ use Rattle.study.proofs.RunLaws.{totals_given}
 use Rattle.printing.proofs.ListLaws.{report_seven, report_other, lines_length}
 use Rattle.printing.proofs.report_length.Goals as goal
 
-pub returns-then-t-eq7 : goal.returns-then-t-eq7
-returns-then-t-eq7 c = ap length (sym (report_seven _ (search rules)))
+pub returns-then-t-eq-AFTER_CLOSING : goal.returns-then-t-eq-AFTER_CLOSING
+returns-then-t-eq-AFTER_CLOSING c = ap length (sym (report_seven _ (search rules)))
 
-pub returns : goal.returns
-returns c =
+pub returns-else-t-eq-AFTER_CLOSING : goal.returns-else-t-eq-AFTER_CLOSING
+returns-else-t-eq-AFTER_CLOSING c =
     c.count_of.ensures
     ∙ ap (λ (t : Totals). if_eq t.number 0 (8 + t.targets) 1) (totals_given c.totals.ensures)
     ∙ sym (lines_length _ _)
