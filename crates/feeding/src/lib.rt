@@ -1,26 +1,26 @@
 // A study from a stream, in pieces as they come, and its report to a writer, line by line.
 #![tactic(auto)]
 
-ghost use Rattle.std.specs.Prelude.{◌<◌, length, OnOk};
+ghost use Rattle.std.specs.Prelude.{OnOk};
 ghost use Rattle.std.specs.Io.KnownBytes.{Appends};
 ghost use Rattle.feeding.specs.Streams.{ReadWhole, report_bytes};
 
 use std::io;
 use study::{Study, Taken};
 
-// Reads to the end, each piece as long as the lent buffer at most; none where the stream does not end. Nothing says that one does, so the reads are counted up
-// to a number that no run reaches. A piece has bytes, so that its answer is 7 wherever bytes follow the closing record.
-pub fn read_study<R: io::Read>(input: &mut R, buffer: &mut [u8]) -> io::Result<Option<Taken>>
-    requires { 0 < length buffer.old }
+// Reads to the end; none where the stream does not end. Nothing says that one does, so the reads are counted up to a number that no run reaches. A piece has
+// bytes, so that its answer is 7 wherever bytes follow the closing record.
+pub fn read_study<R: io::Read>(input: &mut R) -> io::Result<Option<Taken>>
     ensures { ReadWhole (R.remaining input.old) result }
 {
+    let mut buffer = [0u8; 65536];
     let mut taken = Taken {
         study: Study::fresh(),
         number: 0,
         place: 0,
     };
     for _ in 0..u64::MAX {
-        let n = input.read(buffer)?;
+        let n = input.read(&mut buffer)?;
         if n == 0 {
             return Ok(Some(taken));
         }

@@ -12,8 +12,7 @@ fn print_report(rt: &(impl Print + Eprint), taken: Taken) {
 }
 
 fn main(rt: HostRuntime) {
-    let mut buffer = [0u8; 65536];
-    match feeding::read_study(&mut rt.stdin(), &mut buffer) {
+    match feeding::read_study(&mut rt.stdin()) {
         Ok(Some(taken)) => print_report(&rt, taken),
         Ok(None) => {
             let _ = eprintln!(rt; "standard input does not end");

@@ -20,8 +20,7 @@ fn not_read(rt: &(impl Print + Eprint), name: &str, why: io::Error) {
 }
 
 fn print_file<R: io::Read>(rt: &(impl Print + Eprint), file: &mut R, name: &str) {
-    let mut buffer = [0u8; 4096];
-    match feeding::read_study(file, &mut buffer) {
+    match feeding::read_study(file) {
         Ok(Some(taken)) => print_report(rt, taken),
         Ok(None) => not_read(rt, name, io::Error::from(io::ErrorKind::FileTooLarge)),
         Err(why) => not_read(rt, name, why),

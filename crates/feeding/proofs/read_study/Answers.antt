@@ -4,7 +4,7 @@ use Rattle.feeding.proofs.StreamLaws.{nothing_read, more_read, all_read, some_by
 use Rattle.feeding.proofs.read_study.Goals as goal
 
 pub loop-init : goal.loop-init
-loop-init g c = (c.requires, nothing_read _ _ c.fresh.ensures refl)
+loop-init g c = (search rules, nothing_read _ _ c.fresh.ensures refl)
 
 pub returns-then-n-eq0 : goal.returns-then-n-eq0
 returns-then-n-eq0 g c =
