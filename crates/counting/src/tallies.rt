@@ -13,7 +13,7 @@ pub(crate) fn tally_study(y: Tally, number: u32) -> Tally
 }
 
 // The total of an outcome's kind grows by its frequency; a number that is no kind has no total. By index: tried with `get_mut`,
-// and the proof did not close.
+// and the check did not find the proof.
 #[tactic(auto, using(crate::proofs::KindTotalLaws::kind_set, crate::proofs::KindTotalLaws::kind_none))]
 pub(crate) fn grow_kind(kinds: &mut [u64; 6], kind: u8, frequency: u64)
     ensures { (j : ℕ) → j < 6 → get_or kinds.new j 0 ≡ kind_grown kind j frequency (get_or kinds.old j 0) }

@@ -20,7 +20,7 @@ fn pack(frequency: u64, above: u8) -> u64
     }
 }
 
-// A store among the nine pending trees; nothing past them. By index: tried with `get_mut`, and the proof did not close.
+// A store among the nine pending trees; nothing past them. By index: tried with `get_mut`, and the check did not find the proof.
 #[tactic(auto, unfolding(model::specs::Machine::store, numeric::specs::Choice::if_lt))]
 fn put_tree(stack: &mut [u64; 9], at: u8, tree: u64)
     ensures { stack.new ≡ store 9 stack.old at tree }
