@@ -1,59 +1,32 @@
 // A whole file.
-ghost use Rattle.std.specs.Prelude.{◌≤◌, length};
+ghost use Rattle.std.specs.Prelude.{◌≤◌, length, IfOk};
 
+use std::fs::File;
 use std::io;
+use std::rt::Files;
 
-// How many bytes were read, whether there may be more, and what failed: a read, or the file is longer than the buffer.
-#[derive(Clone, Copy)]
-pub(crate) struct Read {
-    pub(crate) count: usize,
-    pub(crate) more: bool,
-    pub(crate) failed: Option<io::Error>,
-}
-
-// Reads once, after the first n bytes of the buffer.
-fn read_more<R: io::Read>(input: &mut R, buffer: &mut [u8], n: usize) -> Read
-    requires { n ≤ length buffer.old }
-    ensures { result.count ≤ length buffer.old }
+// Reads what a file has to the front of the buffer, and says how many bytes; an error where a read fails, or the buffer is full.
+fn read_whole<R: io::Read>(input: &mut R, buffer: &mut [u8]) -> io::Result<usize>
+    ensures { IfOk result (λ n. n ≤ length buffer.new) }
 {
-    match input.read(&mut buffer[n..]) {
-        Err(why) => Read {
-            count: n,
-            more: false,
-            failed: Some(why),
-        },
-        Ok(k) => {
-            if n == buffer.len() {
-                return Read {
-                    count: n,
-                    more: false,
-                    failed: Some(io::Error::from(io::ErrorKind::FileTooLarge)),
-                };
-            }
-            Read {
-                count: n + k,
-                more: k != 0,
-                failed: None,
-            }
-        }
-    }
-}
-
-// The bytes of a file, at the front of the buffer.
-pub(crate) fn read_file<R: io::Read>(input: &mut R, buffer: &mut [u8]) -> Read
-    ensures { result.count ≤ length buffer.new }
-{
-    let mut r = Read {
-        count: 0,
-        more: true,
-        failed: None,
-    };
+    let mut count = 0;
     for _ in 0..buffer.len() {
-        if !r.more {
+        let n = input.read(&mut buffer[count..])?;
+        if count == buffer.len() {
+            return Err(io::Error::from(io::ErrorKind::FileTooLarge));
+        }
+        if n == 0 {
             break;
         }
-        let n = r.count;
-        r = read_more(input, buffer, n);
+        count += n;
     }
-    r
+    Ok(count)
+}
+
+// The same of the file with a name.
+pub(crate) fn read_named(rt: &impl Files, name: &str, buffer: &mut [u8]) -> io::Result<usize>
+    ensures { IfOk result (λ n. n ≤ length buffer.new) }
+{
+    let mut file = File::open(rt, name)?;
+    read_whole(&mut file, buffer)
 }

@@ -1,41 +1,29 @@
 // The line of each answer.
 use crate::calls::MOST_NUMBERS;
 use crate::line;
-use state::Totals;
+use state::{TargetReport, Totals};
 use study::Study;
 use terms::class;
 
 // What each lent number holds before a call for the domino list.
 const BEFORE: u16 = 65_535;
 
-fn piece_line(rt: &(impl Print + Eprint), study: Study, bytes: &[u8]) -> Study {
+// Answers the study after the piece.
+pub(crate) fn piece(rt: &(impl Print + Eprint), study: Study, bytes: &[u8]) -> Study {
     let taken = study.piece(bytes);
     line::answer(rt, "piece", taken.number, taken.place);
     line::end(rt);
     taken.study
 }
 
-// The piece is the first n bytes, or all where there are fewer. Answers the study after it.
-pub(crate) fn piece(rt: &(impl Print + Eprint), study: Study, n: usize, bytes: &[u8]) -> Study {
-    if n <= bytes.len() {
-        return piece_line(rt, study, &bytes[..n]);
-    }
-    piece_line(rt, study, bytes)
-}
-
-fn kinds(rt: &(impl Print + Eprint), kinds: [u64; 6]) {
-    line::text(rt, " kinds");
-    for k in kinds {
-        line::number(rt, k);
-    }
-}
-
 fn total_figures(rt: &(impl Print + Eprint), t: Totals) {
     line::named(rt, " study", t.study as u64);
     line::named(rt, " records", t.records as u64);
     line::named(rt, " leaks", t.leaks);
-    let six = t.kinds;
-    kinds(rt, six);
+    line::text(rt, " kinds");
+    for kind in t.kinds {
+        line::number(rt, kind);
+    }
     line::named(rt, " unjudged", t.unjudged as u64);
 }
 
@@ -49,12 +37,10 @@ pub(crate) fn totals(rt: &(impl Print + Eprint), study: Study) {
 }
 
 // The grade of a place of people, the mark of equipment on the domino list.
-fn judged(rt: &(impl Print + Eprint), class: u8, grade: u8, listed: bool) {
-    if class == class::PEOPLE {
-        line::named(rt, " grade", grade as u64);
-        return;
-    }
-    if listed {
+fn judged(rt: &(impl Print + Eprint), r: TargetReport) {
+    if r.class == class::PEOPLE {
+        line::named(rt, " grade", r.grade as u64);
+    } else if r.listed {
         line::text(rt, " domino");
     }
 }
@@ -65,20 +51,9 @@ pub(crate) fn target(rt: &(impl Print + Eprint), study: Study, t: u16) {
     if r.number == 0 {
         line::named(rt, " sum", r.sum);
         line::named(rt, " margin", r.margin as u64);
-        judged(rt, r.class, r.grade, r.listed);
+        judged(rt, r);
     }
     line::end(rt);
-}
-
-fn wide(x: u16) -> u64 {
-    x as u64
-}
-
-fn number_list(rt: &(impl Print + Eprint), lent: &[u16]) {
-    line::text(rt, " lent");
-    for x in lent {
-        line::number(rt, wide(*x));
-    }
 }
 
 fn domino_line(rt: &(impl Print + Eprint), study: Study, lent: &mut [u16]) {
@@ -87,7 +62,10 @@ fn domino_line(rt: &(impl Print + Eprint), study: Study, lent: &mut [u16]) {
     if r.number == 0 {
         line::named(rt, " count", r.count as u64);
     }
-    number_list(rt, lent);
+    line::text(rt, " lent");
+    for x in lent {
+        line::number(rt, *x as u64);
+    }
     line::end(rt);
 }
 

@@ -10,57 +10,49 @@ mod answers;
 mod calls;
 mod line;
 
-use calls::Call;
-use files::Name;
+use calls::{Call, CallError};
 use std::fs::File;
 use std::io;
-use std::rt::{Env, Files};
+use std::rt::Files;
 use study::Study;
 
-// Answers the call, and gives the study after it. The bytes of a piece are the first ones.
-fn answer(rt: &(impl Print + Eprint), study: Study, call: Call, bytes: &[u8]) -> Study {
+// Answers the call, and gives the study after it.
+fn answer(rt: &(impl Print + Eprint), study: Study, call: Call<'_>) -> Study {
     match call {
-        Call::Piece(n) => answers::piece(rt, study, n as usize, bytes),
-        Call::Totals => {
-            answers::totals(rt, study);
-            study
-        }
-        Call::Target(t) => {
-            answers::target(rt, study, t);
-            study
-        }
-        Call::Domino(n) => {
-            answers::domino(rt, study, n as usize);
-            study
-        }
-        Call::Bad => {
-            line::text(rt, "bad call\n");
-            study
-        }
-        Call::End => study,
-        Call::Failed => {
-            let _ = eprintln!(rt; "replay: the list cannot be read");
-            study
-        }
+        Call::Piece(bytes) => return answers::piece(rt, study, bytes),
+        Call::Totals => answers::totals(rt, study),
+        Call::Target(t) => answers::target(rt, study, t),
+        Call::Domino(n) => answers::domino(rt, study, n as usize),
     }
+    study
 }
 
 // A proved loop has to end, and nothing says that a list does: the turns are counted up, to a number that no run reaches.
-fn replay<R: io::Read>(rt: &(impl Print + Eprint), list: &mut R, bytes: &mut [u8]) {
+fn replay<R: io::Read>(
+    rt: &(impl Print + Eprint),
+    list: &mut R,
+    bytes: &mut [u8],
+) -> Result<(), CallError> {
     let mut study = Study::fresh();
     for _ in 0..u64::MAX {
-        let call = calls::next_call(list, bytes);
-        study = answer(rt, study, call, bytes);
-        if !calls::goes_on(call) {
-            break;
+        match calls::next_call(list, bytes)? {
+            Some(call) => study = answer(rt, study, call),
+            None => break,
         }
     }
+    Ok(())
 }
 
 // The list that a file or a stream has.
 fn replay_list<R: io::Read>(rt: &(impl Print + Eprint), list: &mut R) {
     let mut bytes = [0u8; 65536];
-    replay(rt, list, &mut bytes);
+    match replay(rt, list, &mut bytes) {
+        Ok(()) => {}
+        Err(CallError::Bad) => line::text(rt, "bad call\n"),
+        Err(CallError::Unread) => {
+            let _ = eprintln!(rt; "replay: the list cannot be read");
+        }
+    }
 }
 
 fn title(rt: &(impl Print + Eprint), name: &str) {
@@ -79,22 +71,14 @@ fn replay_named(rt: &(impl Files + Print + Eprint), name: &str) {
     }
 }
 
-// The list in the file that argument i names. Answers whether there is such an argument.
-fn replay_argument(rt: &(impl Env + Files + Print + Eprint), i: usize) -> bool {
-    let mut path = [0u8; files::MOST_BYTES];
-    match files::argument(rt, i, &mut path) {
-        Name::Text(name) => replay_named(rt, name),
-        Name::Failed(why) => files::fail(rt, "argument", why),
-        Name::Missing => return false,
-    }
-    true
-}
-
 fn main(rt: HostRuntime) {
     replay_list(&rt, &mut rt.stdin());
+    let mut path = [0u8; files::MOST_BYTES];
     for i in 1..usize::MAX {
-        if !replay_argument(&rt, i) {
-            break;
+        match files::argument(&rt, i, &mut path) {
+            Some(Ok(name)) => replay_named(&rt, name),
+            Some(Err(why)) => files::fail(&rt, "argument", why),
+            None => break,
         }
     }
 }
