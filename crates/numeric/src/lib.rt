@@ -50,22 +50,3 @@ pub fn split(frequency: u64, chance: u32) -> Branches
         second: frequency.saturating_sub(first),
     }
 }
-
-// Sums that stop at the greatest number of their width.
-pub fn add64(x: u64, y: u64) -> u64
-    ensures { result ≡ min (x + y) 18446744073709551615 }
-{
-    u64::saturating_add(x, y)
-}
-
-pub fn add32(x: u32, y: u32) -> u32
-    ensures { result ≡ min (x + y) 4294967295 }
-{
-    u32::saturating_add(x, y)
-}
-
-pub fn add16(x: u16, y: u16) -> u16
-    ensures { result ≡ min (x + y) 65535 }
-{
-    u16::saturating_add(x, y)
-}
