@@ -51,7 +51,7 @@ pub fn split(frequency: u64, chance: u32) -> Branches
     }
 }
 
-// Sums that stop at the greatest number of their width.
+// Sums that stop at the greatest number of their width. Three functions and no generic one: docs/PROMISES.md names each, with its own bound.
 pub fn add64(x: u64, y: u64) -> u64
     ensures { result ≡ min (x + y) 18446744073709551615 }
 {

@@ -2,19 +2,15 @@
 #![tactic(auto)]
 
 use std::io;
-use study::Taken;
-
-// Prints the report, as far as it can be written.
-fn print_report(rt: &(impl Print + Eprint), taken: Taken) {
-    if feeding::write_report(&mut io::writer(rt), taken).is_err() {
-        let _ = eprintln!(rt; "the report could not be written");
-    }
-}
 
 fn main(rt: HostRuntime) {
     let mut buffer = [0u8; 65536];
     match feeding::read_study(&mut rt.stdin(), &mut buffer) {
-        Ok(Some(taken)) => print_report(&rt, taken),
+        Ok(Some(taken)) => {
+            if feeding::write_report(&mut io::writer(&rt), taken).is_err() {
+                let _ = eprintln!(rt; "the report could not be written");
+            }
+        }
         Ok(None) => {
             let _ = eprintln!(rt; "standard input does not end");
         }
