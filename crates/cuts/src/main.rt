@@ -19,19 +19,20 @@ fn whole(bytes: &[u8]) -> Taken {
 fn in_two(bytes: &[u8], at: usize) -> Taken
     requires { at ≤ length bytes.now }
 {
-    let first = after_empty(Study::fresh(), bytes).piece(&bytes[..at]);
-    after_empty(first.study, bytes).piece(&bytes[at..])
+    let (front, rest) = bytes.split_at(at);
+    let first = after_empty(Study::fresh()).piece(front);
+    after_empty(first.study).piece(rest)
 }
 
-fn after_empty(s: Study, bytes: &[u8]) -> Study {
-    s.piece(&bytes[..0]).study
+fn after_empty(s: Study) -> Study {
+    s.piece(&[]).study
 }
 
 // One byte to a piece, with an empty one before each.
 fn byte_by_byte(bytes: &[u8]) -> Taken {
-    let mut t = Study::fresh().piece(&bytes[..0]);
-    for i in 0..bytes.len() {
-        t = after_empty(t.study, bytes).piece(&bytes[i..i + 1]);
+    let mut t = Study::fresh().piece(&[]);
+    for byte in bytes.chunks(1) {
+        t = after_empty(t.study).piece(byte);
     }
     t
 }

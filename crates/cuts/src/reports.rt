@@ -5,12 +5,7 @@ use study::Study;
 
 // Each target, and the number after the last.
 fn same_targets(a: Study, b: Study, targets: u16) -> bool {
-    for t in 0..=targets {
-        if a.target(t) != b.target(t) {
-            return false;
-        }
-    }
-    true
+    (0..=targets).all(|t| a.target(t) == b.target(t))
 }
 
 // The domino list, into lists of n numbers.

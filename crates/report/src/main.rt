@@ -2,18 +2,14 @@
 #![tactic(auto)]
 
 use std::io;
-use study::Taken;
-
-// Prints the report, as far as it can be written.
-fn print_report(rt: &(impl Print + Eprint), taken: Taken) {
-    if feeding::write_report(&mut io::writer(rt), taken).is_err() {
-        let _ = eprintln!(rt; "the report could not be written");
-    }
-}
 
 fn main(rt: HostRuntime) {
     match feeding::read_study(&mut rt.stdin()) {
-        Ok(Some(taken)) => print_report(&rt, taken),
+        Ok(Some(taken)) => {
+            if feeding::write_report(&mut io::writer(&rt), taken).is_err() {
+                let _ = eprintln!(rt; "the report could not be written");
+            }
+        }
         Ok(None) => {
             let _ = eprintln!(rt; "standard input does not end");
         }

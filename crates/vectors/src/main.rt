@@ -4,14 +4,6 @@
 use std::fs::File;
 use std::io;
 use std::rt::Files;
-use study::Taken;
-
-// Prints the report, as far as it can be written.
-fn print_report(rt: &(impl Print + Eprint), taken: Taken) {
-    if feeding::write_report(&mut io::writer(rt), taken).is_err() {
-        let _ = eprintln!(rt; "a report could not be written");
-    }
-}
 
 // Says on standard error why a file is not read, and prints a line that no report has.
 fn not_read(rt: &(impl Print + Eprint), name: &str, why: io::Error) {
@@ -19,9 +11,14 @@ fn not_read(rt: &(impl Print + Eprint), name: &str, why: io::Error) {
     let _ = println!(rt; "not read");
 }
 
+// Prints the report of the study in a file, as far as it can be written.
 fn print_file<R: io::Read>(rt: &(impl Print + Eprint), file: &mut R, name: &str) {
     match feeding::read_study(file) {
-        Ok(Some(taken)) => print_report(rt, taken),
+        Ok(Some(taken)) => {
+            if feeding::write_report(&mut io::writer(rt), taken).is_err() {
+                let _ = eprintln!(rt; "a report could not be written");
+            }
+        }
         Ok(None) => not_read(rt, name, io::Error::from(io::ErrorKind::FileTooLarge)),
         Err(why) => not_read(rt, name, why),
     }
