@@ -3,28 +3,23 @@ use mathlib.Core.Path.{◌≡◌, refl, sym, ◌∙◌}
 use Prim.Native.Nat.{ℕ, ◌+◌, ◌*◌, ◌/◌}
 use native.Mathlib.Omega.{arith}
 use Rattle.numeric.proofs.ChoiceLaws.{eq_case, ne_case, eq_both, pick_both}
-use Rattle.rows.proofs.Laws.{pick_true, pick_false}
 use Rattle.vulnerability.specs.Domino.{listed_by}
 use Rattle.model.specs.Machine.{marked_facts}
-use borrow.Author.Rules.{rules}
+use Rattle.rows.proofs.mark.Goals.{else-x-eq0-via-then-x-eq0+then-x-ne-PEOPLE+else-listed, else-x-eq0-via-then-x-eq0+else-x-ne-PEOPLE, else-x-eq0-via-else-x-eq0}
 use Rattle.rows.proofs.mark.Goals as goal
-
-pub returns-then-x-eq1 : goal.returns-then-x-eq1
-unfolding marked_facts
-returns-then-x-eq1 c =
-    let a = c.args in
-    let x = a.x in
-    let stays : x ≡ x / 2 * 2 + 1 = omega (arith, c.if-x-eq1.true) in
-    eq_both (λ (y : ℕ). x ≡ y) _ _ _ _ refl (pick_both (λ (y : ℕ). x ≡ y) (listed_by a.chance a.leak) _ _ stays refl)
-
-pub returns-then-x-eq-PEOPLE : goal.returns-then-x-eq-PEOPLE
-unfolding marked_facts
-returns-then-x-eq-PEOPLE c = eq_case _ _ _ _ (search rules) refl
 
 pub returns-then-listed : goal.returns-then-listed
 unfolding marked_facts
-returns-then-listed c = ne_case _ _ _ _ (search rules) (pick_true _ _ _ (sym c.listed.ensures ∙ c.if-listed.true))
+returns-then-listed c = ne_case _ _ _ _ c.if-x-ne-PEOPLE.true (rw (sym c.listed.ensures ∙ c.if-listed.true) refl)
 
-pub returns : goal.returns
+pub returns-else-x-eq0 : goal.returns-else-x-eq0
 unfolding marked_facts
-returns c = ne_case _ _ _ _ (search rules) (pick_false _ _ _ (sym c.listed.ensures ∙ c.if-listed.false))
+returns-else-x-eq0 c =
+    let x = c.args.x in
+    elim c.else-x-eq0.branch [
+      | else-x-eq0-via-then-x-eq0+then-x-ne-PEOPLE+else-listed w ↦ ne_case _ _ _ _ w.if-x-ne-PEOPLE.true (rw (sym w.listed.ensures ∙ w.if-listed.false) refl)
+      | else-x-eq0-via-then-x-eq0+else-x-ne-PEOPLE w ↦ eq_case _ _ _ _ w.if-x-ne-PEOPLE.false refl
+      | else-x-eq0-via-else-x-eq0 w ↦
+          let stays : x ≡ x / 2 * 2 + 1 = omega (arith, w.if-x-eq0.false) in
+          eq_both (λ (y : ℕ). x ≡ y) _ _ _ _ refl (pick_both (λ (y : ℕ). x ≡ y) (listed_by c.args.chance c.args.leak) _ _ stays refl)
+    ]
