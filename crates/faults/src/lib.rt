@@ -1,135 +1,108 @@
-// The fault of a record where none of a study's bounds is compared (document 01, "Numbers the desk says no with"); 0 is none.
+// The fault of a record where none of a study's bounds is compared (document 01, "Numbers the desk says no with"): `Ok` where it has none.
 #![tactic(auto)]
 
 ghost use Rattle.std.specs.Prelude.{◌≡◌};
-ghost use Rattle.numeric.specs.Choice.{if_eq, if_lt};
+ghost use Rattle.numeric.specs.Choice.{pick, if_eq, if_lt};
 ghost use Rattle.terms.specs.Terms.{tenths_unit};
+ghost use Rattle.state.specs.Refusals.{number_of, refusal_in};
 ghost use Rattle.model.specs.Faults.{order_fault, naming_fault, effect_fault, closing_fault};
 ghost use Rattle.model.specs.Verdict.{field};
 ghost use Rattle.decoding.specs.Effects.{unit_of};
 
-use state::{Core, record};
+use state::{Core, Refusal, record};
 use terms::{outcome, unit};
 
-fn only(k: u8, allowed: u8) -> u8
-    ensures { result ≡ if_eq k allowed 0 2 }
+// Refused for a reason, unless something holds.
+pub fn check(holds: bool, why: Refusal) -> Result<(), Refusal>
+    ensures { refusal_in result ≡ pick holds 0 (number_of why) }
 {
-    if k == allowed {
-        return 0;
-    }
-    2
+    if holds { Ok(()) } else { Err(why) }
 }
 
-fn only_first(scenarios: u32) -> u8
-    ensures { result ≡ if_eq scenarios 0 0 2 }
+// A record the order doesn't allow here.
+#[tactic(auto, unfolding(model::specs::Faults::order_fault, numeric::specs::Choice::if_eq, numeric::specs::Choice::if_lt))]
+pub fn order_fault(records: u32, left: u16, trees: u8, scenarios: u32, k: u8) -> Result<(), Refusal>
+    ensures { refusal_in result ≡ order_fault records left trees scenarios k }
 {
-    if scenarios == 0 {
-        return 0;
-    }
-    2
-}
-
-// 2: a record the order doesn't allow here.
-pub fn order_fault(records: u32, left: u16, trees: u8, scenarios: u32, k: u8) -> u8
-    ensures { result ≡ order_fault records left trees scenarios k }
-{
-    if records == 0 {
-        return only(k, record::OPENING);
-    }
-    if 0 < left {
-        return only(k, record::EFFECT);
-    }
-    if 0 < trees {
-        if k == record::BRANCHING {
-            return 0;
+    let allowed = if records == 0 {
+        k == record::OPENING
+    } else if 0 < left {
+        k == record::EFFECT
+    } else if 0 < trees {
+        matches!(k, record::BRANCHING | record::OUTCOME)
+    } else {
+        match k {
+            record::TARGET => scenarios == 0,
+            record::LEAK | record::CLOSING => true,
+            _ => false,
         }
-        return only(k, record::OUTCOME);
-    }
-    if k == record::TARGET {
-        return only_first(scenarios);
-    }
-    if k == record::LEAK {
-        return 0;
-    }
-    only(k, record::CLOSING)
+    };
+    check(allowed, Refusal::Order)
 }
 
-// 4: a target whose number isn't the next.
-pub fn number_fault(number: u16, targets: u16) -> u8
-    ensures { result ≡ if_eq number targets 0 4 }
+// A target whose number isn't the next.
+#[tactic(auto, unfolding(numeric::specs::Choice::if_eq))]
+pub fn number_fault(number: u16, targets: u16) -> Result<(), Refusal>
+    ensures { refusal_in result ≡ if_eq number targets 0 4 }
 {
-    if number == targets {
-        return 0;
-    }
-    4
+    check(number == targets, Refusal::Numbering)
 }
 
-fn naming_fault(targets: u16, next: u32, t: u16) -> u8
-    ensures { result ≡ naming_fault targets next t }
+#[tactic(auto, unfolding(model::specs::Faults::naming_fault, numeric::specs::Choice::if_lt))]
+fn naming_fault(targets: u16, next: u32, t: u16) -> Result<(), Refusal>
+    ensures { refusal_in result ≡ naming_fault targets next t }
 {
-    if (t as u32) < next {
-        return 4;
-    }
-    if t < targets {
-        return 0;
-    }
-    4
+    check(next <= t as u32 && t < targets, Refusal::Numbering)
 }
 
-// The fault of an effect but for its place.
-pub fn effect_fault(targets: u16, kind: u8, next: u32, t: u16, intensity: u32, duration: u16) -> u8
-    ensures { result ≡ effect_fault targets kind next t intensity duration }
+// The fault of an effect but for its place. A fire lasts; of the others only a flash fire's intensity is bounded.
+#[tactic(auto, unfolding(model::specs::Faults::effect_fault, numeric::specs::Choice::if_eq, numeric::specs::Choice::if_le))]
+pub fn effect_fault(
+    targets: u16,
+    kind: u8,
+    next: u32,
+    t: u16,
+    intensity: u32,
+    duration: u16,
+) -> Result<(), Refusal>
+    ensures { refusal_in result ≡ effect_fault targets kind next t intensity duration }
 {
-    if kind <= outcome::FIREBALL {
-        if duration == 0 {
-            return 3;
-        }
-        return naming_fault(targets, next, t);
-    }
-    if duration == 0 {
-        if kind == outcome::FLASH_FIRE {
-            if intensity <= 1 {
-                return naming_fault(targets, next, t);
-            }
-            return 3;
-        }
-        return naming_fault(targets, next, t);
-    }
-    3
+    let fits = if kind <= outcome::FIREBALL {
+        duration != 0
+    } else {
+        duration == 0 && (kind != outcome::FLASH_FIRE || intensity <= 1)
+    };
+    check(fits, Refusal::Field)?;
+    naming_fault(targets, next, t)
 }
 
 // The same of its bytes. A last byte that is no unit comes before all others.
-pub fn own_effect(targets: u16, kind: u8, next: u32, p: &[u8]) -> u8
-    ensures { result ≡ if_lt tenths_unit (unit_of p.now) 3 (effect_fault targets kind next (field p.now 1 2) (field p.now 3 4) (field p.now 7 2)) }
+#[tactic(auto, unfolding(numeric::specs::Choice::if_lt))]
+pub fn own_effect(targets: u16, kind: u8, next: u32, p: &[u8]) -> Result<(), Refusal>
+    ensures { refusal_in result ≡ if_lt tenths_unit (unit_of p.now) 3 (effect_fault targets kind next (field p.now 1 2) (field p.now 3 4) (field p.now 7 2)) }
 {
-    if unit::TENTHS < decoding::unit(p) {
-        return 3;
-    }
-    let t = decoding::half_at_1(p);
-    let intensity = decoding::word_at_3(p);
-    let duration = decoding::half_at_7(p);
+    check(decoding::unit(p) <= unit::TENTHS, Refusal::Field)?;
+    let t = decoding::half_at(p, 1);
+    let intensity = decoding::word_at(p, 3);
+    let duration = decoding::half_at(p, 7);
     effect_fault(targets, kind, next, t, intensity, duration)
 }
 
-fn closing_fault(records: u32, leaks: u64, count: u32, sum: u64) -> u8
-    ensures { result ≡ closing_fault records leaks count sum }
+#[tactic(auto, unfolding(model::specs::Faults::closing_fault, numeric::specs::Choice::if_eq))]
+fn closing_fault(records: u32, leaks: u64, count: u32, sum: u64) -> Result<(), Refusal>
+    ensures { refusal_in result ≡ closing_fault records leaks count sum }
 {
-    let due = (records as u64) + 1;
-    let said = count as u64;
-    if said == due {
-        if sum == leaks {
-            return 0;
-        }
-        return 6;
-    }
-    6
+    check(
+        u64::from(count) == u64::from(records) + 1 && sum == leaks,
+        Refusal::ClosingDiffers,
+    )
 }
 
-pub fn own_closing(c: Core, p: &[u8]) -> u8
-    ensures { result ≡ closing_fault c.counts.records c.counts.leaks (field p.now 1 4) (field p.now 5 8) }
+// A closing record whose count, with itself, or whose sum is another than the study's.
+pub fn own_closing(c: Core, p: &[u8]) -> Result<(), Refusal>
+    ensures { refusal_in result ≡ closing_fault c.counts.records c.counts.leaks (field p.now 1 4) (field p.now 5 8) }
 {
-    let count = decoding::word_at_1(p);
-    let sum = decoding::long_at_5(p);
-    let k = c.counts;
-    closing_fault(k.records, k.leaks, count, sum)
+    let count = decoding::word_at(p, 1);
+    let sum = decoding::long_at(p, 5);
+    closing_fault(c.counts.records, c.counts.leaks, count, sum)
 }

@@ -33,6 +33,7 @@ pub fn unpack_facts(x: u64) -> Target
 }
 
 // Equipment is marked by an effect that lists it. A mark stays, and most effects find one.
+#[tactic(auto, unfolding(model::specs::Machine::marked_facts, numeric::specs::Choice::if_eq))]
 pub fn mark(x: u64, chance: u32, leak: u64) -> u64
     ensures { result ≡ marked_facts x chance leak }
 {

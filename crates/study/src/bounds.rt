@@ -5,11 +5,22 @@ ghost use Rattle.model.specs.Content.{given, on_curve};
 ghost use Rattle.model.specs.Faults.{target_fault, leak_fault, chance_fault, branching_fault, outcome_fault};
 ghost use Rattle.model.specs.Verdict.{field, facts_at};
 ghost use Rattle.model.specs.Machine.{top, above_of};
+ghost use Rattle.state.specs.Refusals.{refusal_in};
 ghost use Rattle.study.specs.Placing.{place_fault};
 
 use crate::Study;
-use state::Core;
+use state::{Core, Refusal};
 use terms::{Target, class, outcome, setting};
+
+// The number that a result says no with; 0 where it says yes.
+pub(crate) fn number_in(fault: Result<(), Refusal>) -> u8
+    ensures { result ≡ refusal_in fault }
+{
+    match fault {
+        Ok(()) => 0,
+        Err(why) => why.number(),
+    }
+}
 
 // 5: one record too many, after 2.
 pub(crate) fn place_fault(c: Core, role: u8) -> u8
@@ -17,7 +28,7 @@ pub(crate) fn place_fault(c: Core, role: u8) -> u8
 {
     let k = c.counts;
     let b = c.branch;
-    if faults::order_fault(k.records, b.left, b.height, k.scenarios, role) == 0 {
+    if faults::order_fault(k.records, b.left, b.height, k.scenarios, role).is_ok() {
         if Study::MOST_RECORDS <= k.records {
             return 5;
         }
@@ -42,10 +53,10 @@ fn target_fault(targets: u16, number: u16, f: Target) -> u8
         return 3;
     }
     if f.class == class::PEOPLE {
-        return faults::number_fault(number, targets);
+        return number_in(faults::number_fault(number, targets));
     }
     if f.setting == setting::INDIVIDUAL {
-        return faults::number_fault(number, targets);
+        return number_in(faults::number_fault(number, targets));
     }
     3
 }
@@ -138,7 +149,7 @@ pub(crate) fn own_curve(c: Core, curve: u8, rate: u32, stack: &[u64; 9]) -> u8
 pub(crate) fn own_target(c: Core, p: &[u8]) -> u8
     ensures { result ≡ target_fault c.counts.targets (field p.now 1 2) (facts_at p.now) }
 {
-    let number = decoding::half_at_1(p);
+    let number = decoding::half_at(p, 1);
     let f = decoding::facts(p);
     let k = c.counts;
     target_fault(k.targets, number, f)

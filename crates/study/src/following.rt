@@ -8,7 +8,7 @@ ghost use Rattle.study.specs.Following.{reading_after, core_after};
 ghost use Rattle.study.specs.Spans.{length_of, after_first, Records};
 
 use crate::Study;
-use crate::bounds::place_fault;
+use crate::bounds::{number_in, place_fault};
 use crate::records::{Run, refused};
 use state::{Branch, Core, Counts, Reading, Tally, phase, record};
 
@@ -128,7 +128,7 @@ pub(crate) fn read_effects(
     let most = most_effects(c);
     let run = effects::take_effects(b, k.targets, most, y.unjudged, bytes, sums, margins, facts);
     if run.count == 0 {
-        let own = faults::own_effect(k.targets, b.kind, b.next, bytes);
+        let own = number_in(faults::own_effect(k.targets, b.kind, b.next, bytes));
         return Run {
             core: refused(c, own),
             at: first,

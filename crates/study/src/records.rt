@@ -7,7 +7,9 @@ ghost use Rattle.model.specs.Machine.{state, core, refused_with, record_read};
 ghost use Rattle.counting.specs.Kinds.{with_kinds};
 ghost use Rattle.study.specs.Spans.{of_scenario, length_of};
 
-use crate::bounds::{leak_fault, outcome_fault, own_branching, own_curve, own_target, place_fault};
+use crate::bounds::{
+    leak_fault, number_in, outcome_fault, own_branching, own_curve, own_target, place_fault,
+};
 use faults::own_closing;
 use state::{Core, record};
 
@@ -33,7 +35,7 @@ fn read_opening(c: Core, p: &[u8]) -> Core
     if misplaced != 0 {
         return refused(c, misplaced);
     }
-    counting::core_opening(c, decoding::word_at_1(p))
+    counting::core_opening(c, decoding::word_at(p, 1))
 }
 
 fn read_target(c: Core, p: &[u8], facts: &mut [u64; 256]) -> Core
@@ -59,8 +61,8 @@ pub(crate) fn read_leak(c: Core, p: &[u8], stack: &mut [u64; 9]) -> Core
     if misplaced != 0 {
         return refused(c, misplaced);
     }
-    let number = decoding::word_at_1(p);
-    let frequency = decoding::long_at_5(p);
+    let number = decoding::word_at(p, 1);
+    let frequency = decoding::long_at(p, 5);
     let k = c.counts;
     let own = leak_fault(k.scenarios, k.last, number, frequency);
     if own != 0 {
@@ -77,7 +79,7 @@ pub(crate) fn read_branching(c: Core, p: &[u8], stack: &mut [u64; 9]) -> Core
     if misplaced != 0 {
         return refused(c, misplaced);
     }
-    let chance = decoding::word_at_1(p);
+    let chance = decoding::word_at(p, 1);
     let own = own_branching(c, chance, stack);
     if own != 0 {
         return refused(c, own);
@@ -94,8 +96,8 @@ pub(crate) fn read_curve(c: Core, p: &[u8], stack: &mut [u64; 9]) -> Core
     if misplaced != 0 {
         return refused(c, misplaced);
     }
-    let curve = decoding::byte_at_1(p);
-    let rate = decoding::word_at_2(p);
+    let curve = decoding::byte_at(p, 1);
+    let rate = decoding::word_at(p, 2);
     let own = own_curve(c, curve, rate, stack);
     if own != 0 {
         return refused(c, own);
@@ -113,8 +115,8 @@ pub(crate) fn read_outcome(c: Core, p: &[u8], stack: &[u64; 9], kinds: &mut [u64
     if misplaced != 0 {
         return refused(c, misplaced);
     }
-    let kind = decoding::byte_at_1(p);
-    let effects = decoding::half_at_2(p);
+    let kind = decoding::byte_at(p, 1);
+    let effects = decoding::half_at(p, 2);
     let own = outcome_fault(kind, effects);
     if own != 0 {
         return refused(c, own);
@@ -130,7 +132,7 @@ fn read_closing(c: Core, p: &[u8]) -> Core
     if misplaced != 0 {
         return refused(c, misplaced);
     }
-    let own = own_closing(c, p);
+    let own = number_in(own_closing(c, p));
     if own != 0 {
         return refused(c, own);
     }

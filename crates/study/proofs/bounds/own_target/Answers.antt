@@ -2,4 +2,4 @@
 use Rattle.study.proofs.bounds.own_target.Goals as goal
 
 pub returns : goal.returns
-returns c = rw (c.half_at_1-number.ensures, c.facts-f.ensures) at c.target_fault.ensures
+returns c = rw (c.half_at-number.ensures, c.facts-f.ensures) at c.target_fault.ensures

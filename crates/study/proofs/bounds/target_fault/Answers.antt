@@ -1,5 +1,5 @@
 -- `study::bounds::target_fault` meets its contract, case by case. Assumes nothing.
-use mathlib.Core.Path.{refl}
+use mathlib.Core.Path.{refl, ◌∙◌}
 use Rattle.numeric.proofs.ChoiceLaws.{eq_case, ge_case, gt_case, le_case, lt_case, ne_case}
 use Rattle.model.specs.Faults.{target_fault}
 use borrow.Author.Rules.{rules}
@@ -23,11 +23,11 @@ returns-then-f-gt-MOST_VOLUME c = gt_case _ _ _ _ (search rules) (ge_case _ _ _ 
 
 pub returns-then-f-eq-PEOPLE : goal.returns-then-f-eq-PEOPLE
 unfolding target_fault
-returns-then-f-eq-PEOPLE c = gt_case _ _ _ _ (search rules) (ge_case _ _ _ _ (search rules) (ge_case _ _ _ _ (search rules) (ge_case _ _ _ _ (search rules) (eq_case _ _ _ _ (search rules) c.number_fault.ensures))))
+returns-then-f-eq-PEOPLE c = gt_case _ _ _ _ (search rules) (ge_case _ _ _ _ (search rules) (ge_case _ _ _ _ (search rules) (ge_case _ _ _ _ (search rules) (eq_case _ _ _ _ (search rules) (c.number_in.ensures ∙ c.number_fault.ensures)))))
 
 pub returns-then-f-eq-INDIVIDUAL : goal.returns-then-f-eq-INDIVIDUAL
 unfolding target_fault
-returns-then-f-eq-INDIVIDUAL c = gt_case _ _ _ _ (search rules) (ge_case _ _ _ _ (search rules) (ge_case _ _ _ _ (search rules) (ge_case _ _ _ _ (search rules) (ne_case _ _ _ _ (search rules) (eq_case _ _ _ _ (search rules) c.number_fault-then-f-eq-INDIVIDUAL.ensures)))))
+returns-then-f-eq-INDIVIDUAL c = gt_case _ _ _ _ (search rules) (ge_case _ _ _ _ (search rules) (ge_case _ _ _ _ (search rules) (ge_case _ _ _ _ (search rules) (ne_case _ _ _ _ (search rules) (eq_case _ _ _ _ (search rules) (c.number_in-then-f-eq-INDIVIDUAL.ensures ∙ c.number_fault-then-f-eq-INDIVIDUAL.ensures))))))
 
 pub returns : goal.returns
 unfolding target_fault

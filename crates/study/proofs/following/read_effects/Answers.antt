@@ -71,7 +71,7 @@ returns-then-run-eq0 c =
     let taken : Leads (sound_at g.c g.sums.now g.margins.now g.facts.now l) (alike_of l (reach c.most_effects-most.result l)) c.take_effects-run.result.count = taken_at _ _ _ c.take_effects-run.ensures.count_value.0 in
     let begun : Figures = begin g.c g.sums.now g.margins.now g.facts.now l in
     let same = (rw none at c.take_effects-run.ensures.facts_after) ∙ sym (effects_none _ g.c.branch begun _ l) in
-    let own = c.own_effect-own.ensures in record {
+    let own = c.number_in-own.ensures ∙ c.own_effect.ensures in record {
       records = records_alone l _ n c.requires.in_bounds.0;
       by_index = λ x q k.
           read_alone _ _ q k _ _ _ l _ n

@@ -17,7 +17,7 @@ returns-then-own-ne0 c q s m f =
     let w = o.before.before in
     let e = w.before in
     let p = e.before in
-    let own = rw (w.word_at_1-chance.ensures, ← trees_next) at o.own_branching-own.ensures in
+    let own = rw (w.word_at-chance.ensures, ← trees_next) at o.own_branching-own.ensures in
     rw p.requires (own_refused _ _ _ _ p.place_fault-misplaced.ensures e.if-misplaced-ne0.false own c.if-own-ne0.true (rw c.refused-then-own-ne0.ensures refl))
 
 pub returns : goal.returns
@@ -27,6 +27,6 @@ returns c q s m f =
     let w = o.before.before in
     let e = w.before in
     let p = e.before in
-    let own = rw (w.word_at_1-chance.ensures, ← trees_next) at o.own_branching-own.ensures in
+    let own = rw (w.word_at-chance.ensures, ← trees_next) at o.own_branching-own.ensures in
     rw p.requires
-    (without_fault _ _ _ _ p.place_fault-misplaced.ensures e.if-misplaced-ne0.false own c.if-own-ne0.false (rw (c.take_branching.ensures.value, c.take_branching.ensures.stack_after, w.word_at_1-chance.ensures) refl))
+    (without_fault _ _ _ _ p.place_fault-misplaced.ensures e.if-misplaced-ne0.false own c.if-own-ne0.false (rw (c.take_branching.ensures.value, c.take_branching.ensures.stack_after, w.word_at-chance.ensures) refl))

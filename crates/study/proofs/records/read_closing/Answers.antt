@@ -1,5 +1,5 @@
 -- `study::records::read_closing` meets its contract, case by case. Assumes nothing.
-use mathlib.Core.Path.{refl}
+use mathlib.Core.Path.{refl, ◌∙◌}
 use Rattle.model.specs.Faults.{own_fault}
 use Rattle.model.specs.Machine.{accepted, with_reading}
 use Rattle.study.proofs.RecordLaws.{place_refused, own_refused, without_fault}
@@ -14,11 +14,11 @@ unfolding own_fault with_reading
 returns-then-own-ne0 c q k s m f =
     let p = c.before.before.before.before in
     rw p.requires
-    (own_refused _ _ _ _ p.place_fault-misplaced.ensures c.if-misplaced-ne0.false c.own_closing-own.ensures c.if-own-ne0.true (rw c.refused-then-own-ne0.ensures refl))
+    (own_refused _ _ _ _ p.place_fault-misplaced.ensures c.if-misplaced-ne0.false (c.number_in-own.ensures ∙ c.own_closing.ensures) c.if-own-ne0.true (rw c.refused-then-own-ne0.ensures refl))
 
 pub returns : goal.returns
 unfolding accepted own_fault
 returns c q k s m f =
     let p = c.before.before.before.before in
     rw p.requires
-    (without_fault _ _ _ _ p.place_fault-misplaced.ensures c.if-misplaced-ne0.false c.own_closing-own.ensures c.if-own-ne0.false (rw c.core_closing.ensures refl))
+    (without_fault _ _ _ _ p.place_fault-misplaced.ensures c.if-misplaced-ne0.false (c.number_in-own.ensures ∙ c.own_closing.ensures) c.if-own-ne0.false (rw c.core_closing.ensures refl))

@@ -19,7 +19,7 @@ returns-then-own-ne0 c q s m f =
     let w = r.before in
     let e = w.before in
     let p = e.before in
-    let own = rw (w.byte_at_1-curve.ensures, r.word_at_2-rate.ensures, ← trees_next) at o.own_curve-own.ensures in
+    let own = rw (w.byte_at-curve.ensures, r.word_at-rate.ensures, ← trees_next) at o.own_curve-own.ensures in
     rw p.requires (own_refused _ _ _ _ p.place_fault-misplaced.ensures e.if-misplaced-ne0.false own c.if-own-ne0.true (rw c.refused-then-own-ne0.ensures refl))
 
 pub returns : goal.returns
@@ -31,7 +31,7 @@ returns c q s m f =
     let w = r.before in
     let e = w.before in
     let p = e.before in
-    let own = rw (w.byte_at_1-curve.ensures, r.word_at_2-rate.ensures, ← trees_next) at o.own_curve-own.ensures in
+    let own = rw (w.byte_at-curve.ensures, r.word_at-rate.ensures, ← trees_next) at o.own_curve-own.ensures in
     rw p.requires
     (without_fault _ _ _ _ p.place_fault-misplaced.ensures e.if-misplaced-ne0.false own h.if-own-ne0.false
-    (rw (c.take_branching.ensures.value, c.take_branching.ensures.stack_after, h.chance-chance.ensures ∙ ap₂ ignition w.byte_at_1-curve.ensures r.word_at_2-rate.ensures) refl))
+    (rw (c.take_branching.ensures.value, c.take_branching.ensures.stack_after, h.chance-chance.ensures ∙ ap₂ ignition w.byte_at-curve.ensures r.word_at-rate.ensures) refl))

@@ -14,4 +14,4 @@ unfolding accepted own_fault
 returns c q k s m f =
     let p = c.before.before.before in
     rw p.requires
-    (without_fault _ _ _ 0 p.place_fault-misplaced.ensures c.if-misplaced-ne0.false refl refl (rw (c.core_opening.ensures, c.word_at_1.ensures) refl))
+    (without_fault _ _ _ 0 p.place_fault-misplaced.ensures c.if-misplaced-ne0.false refl refl (rw (c.core_opening.ensures, c.word_at.ensures) refl))

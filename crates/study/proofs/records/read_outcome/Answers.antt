@@ -25,7 +25,7 @@ returns-then-own-ne0 c q s m f =
     let e = b.before in
     let p = e.before in
     let a = p.before.before in
-    let own = rw (b.byte_at_1-kind.ensures, h.half_at_2-effects.ensures) at o.outcome_fault-own.ensures in
+    let own = rw (b.byte_at-kind.ensures, h.half_at-effects.ensures) at o.outcome_fault-own.ensures in
     rw a.requires
     (own_refused (state (with_kinds a.args.c a.args.kinds.now) q a.args.stack.now s m f) _ _ _ p.place_fault-misplaced.ensures e.if-misplaced-ne0.false own c.if-own-ne0.true (rw c.refused-then-own-ne0.ensures refl))
 
@@ -38,7 +38,7 @@ returns c q s m f =
     let e = b.before in
     let p = e.before in
     let a = p.before.before in
-    let own = rw (b.byte_at_1-kind.ensures, h.half_at_2-effects.ensures) at o.outcome_fault-own.ensures in
+    let own = rw (b.byte_at-kind.ensures, h.half_at-effects.ensures) at o.outcome_fault-own.ensures in
     rw a.requires
     (without_fault (state (with_kinds a.args.c a.args.kinds.now) q a.args.stack.now s m f) _ _ _ p.place_fault-misplaced.ensures e.if-misplaced-ne0.false own c.if-own-ne0.false
-    (ap (λ (x : Core). state x q a.args.stack.now s m f) (rw (b.byte_at_1-kind.ensures, h.half_at_2-effects.ensures) at c.take_outcome.ensures.kinds_after)))
+    (ap (λ (x : Core). state x q a.args.stack.now s m f) (rw (b.byte_at-kind.ensures, h.half_at-effects.ensures) at c.take_outcome.ensures.kinds_after)))
