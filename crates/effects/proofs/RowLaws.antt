@@ -1,5 +1,5 @@
 -- The figures of a target after an effect, and a store of what stands at a place already. Assumes nothing.
-use mathlib.Core.Path.{◌≡◌, refl, sym}
+use mathlib.Core.Path.{◌≡◌, refl, sym, ◌∙◌}
 use mathlib.Core.Bool.{true}
 use mathlib.Core.List.{List}
 use Prim.Native.Nat.{ℕ, ◌+◌, ◌<◌, ◌≤◌}
@@ -11,9 +11,10 @@ use Rattle.numeric.proofs.ChoiceLaws.{lt_both, lt_case, ge_case}
 use Rattle.state.specs.declared.Branch.{Branch}
 use Rattle.terms.specs.declared.Judged.{Judged}
 use Rattle.terms.specs.declared.Target.{Target}
-use Rattle.model.specs.Machine.{up_to, most32, most64, store, fetch, unpacked_facts, marked_facts, row_after}
+use Rattle.model.specs.Machine.{up_to, most32, most64, store, fetch, unpacked_facts, marked_facts, row_of, row_after}
 use Rattle.effects.specs.Judging.{Judge, effect_at}
 use Rattle.effects.specs.Steps.{Added}
+use Rattle.effects.proofs.ZeroLaws.{zero_sum, zero_facts}
 
 pub store_same : (n : ℕ) (l : List ℕ) (i v : ℕ) → v ≡ get_or l i 0 → l ≡ store n l i v
 unfolding store
@@ -40,15 +41,26 @@ module _ (judge : Judge) (b : Branch) (i q d : ℕ) (s m f : List ℕ) (row : i 
   unfolding store
   stored l e = lt_case _ _ _ _ row (rw e refl)
 
-  pub added : {c missed y z : ℕ} → c ≡ here.chance → missed ≡ pick here.judged 0 1 → y ≡ up_to most64 (get_or s i 0) (share_of b.frequency c) → z ≡ marked_facts (get_or f i 0) c b.leak
-      → Added judge b i q d s m f missed (set s i y) (set m i x) (set f i z)
+  pub added : {c missed y : ℕ} {f' : List ℕ} → c ≡ here.chance → missed ≡ pick here.judged 0 1 → y ≡ up_to most64 (get_or s i 0) (share_of b.frequency c) → f' ≡ set f i (marked_facts (get_or f i 0) c b.leak)
+      → Added judge b i q d s m f missed (set s i y) (set m i x) f'
   unfolding row_after
   added e j es ef =
       record {
         judging = rw (← here_is) j;
         sums = rw (← here_is, ← e) (stored s es);
         margins = stored m grown;
-        facts = rw (← here_is, ← e) (stored f ef);
+        facts = rw (← here_is, ← e) (ef ∙ stored f refl);
+      }
+
+  -- one whose chance is 0: the margin alone grows
+  pub spared : {missed : ℕ} → 0 ≡ here.chance → missed ≡ pick here.judged 0 1 → get_or s i 0 ≤ most64 → Added judge b i q d s m f missed s (set m i x) f
+  unfolding row_after
+  spared e j w =
+      record {
+        judging = rw (← here_is) j;
+        sums = rw (← here_is, ← e) (store_same 256 _ _ _ (zero_sum (row_of s m f i) b 0 refl w));
+        margins = stored m grown;
+        facts = rw (← here_is, ← e) (store_same 256 _ _ _ (zero_facts (row_of s m f i) b 0 refl));
       }
 
 -- a target that has none counts as a place of people, on which every effect is judged

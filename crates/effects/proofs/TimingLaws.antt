@@ -23,7 +23,7 @@ unfolding timing_of
 length_most l = eq_both (λ (t : Timing). t.length ≤ 10) _ _ _ _ (omega arith) (omega arith)
 
 -- those timed alike are some of the first n
-unit_most : (u : ℕ) (l : List ℕ) (n : ℕ) → with_unit u l n ≤ n
+pub unit_most : (u : ℕ) (l : List ℕ) (n : ℕ) → with_unit u l n ≤ n
 unfolding with_unit
 unit_most u l n = lt_both (λ (x : ℕ). x ≤ n) _ _ _ _ (omega arith) (leading_is _ n).within
 

@@ -6,10 +6,11 @@ ghost use Rattle.vulnerability.specs.Effect.{effect_on};
 ghost use Rattle.model.specs.Verdict.{field};
 ghost use Rattle.effects.specs.Effects.{figures, offset, after_effects, sound, taken_of};
 ghost use Rattle.effects.specs.Timings.{timing_of, with_unit, alike_of};
+ghost use Rattle.effects.specs.Judging.{JudgedAlike};
 ghost use Rattle.effects.specs.Steps.{Added};
 
 use state::{Branch, MOST_TARGETS, Rows, record};
-use terms::{Clock, unit};
+use terms::{Clock, outcome, unit};
 
 // How many effects were taken and how many bytes they have, the least target that the next one may name, and the effects of the study so far that no
 // rule judged.
@@ -70,7 +71,8 @@ fn with_unit(unit: u8, top: usize, bytes: &[u8]) -> usize
 // The effects that are taken with the first: those of its kind and unit. The scan for the unit is kind 8's alone, so that the loop over the effects asks
 // for the kind and for nothing else.
 fn run_of(most: u32, bytes: &[u8]) -> Run
-    ensures { (result.timing ≡ timing_of bytes.now) × (result.top ≡ alike_of bytes.now (min most ((length bytes.now - 6) / 10))) }
+    ensures in_reach { (result.timing.length ≤ 10) × (result.top ≤ (length bytes.now - 6) / 10) }
+    ensures alike { (result.timing ≡ timing_of bytes.now) × (result.top ≡ alike_of bytes.now (min most ((length bytes.now - 6) / 10))) }
 {
     let top = reach(most, bytes.len());
     match decoding::kind(bytes) {
@@ -97,6 +99,7 @@ fn run_of(most: u32, bytes: &[u8]) -> Run
 }
 
 // The effect that the bytes begin with, if it is of a kind of records and has no fault but for its unit.
+#[inline(always)]
 fn sound_effect(record_kind: u8, targets: u16, kind: u8, next: u32, p: &[u8]) -> Option<Effect>
     ensures { MatchOption result (sound record_kind targets kind next p.now ≡ false) (λ e. (sound record_kind targets kind next p.now ≡ true) × (e.target ≡ field p.now 1 2) × (e.intensity ≡ field p.now 3 4) × (e.duration ≡ field p.now 7 2)) }
 {
@@ -118,35 +121,48 @@ fn sound_effect(record_kind: u8, targets: u16, kind: u8, next: u32, p: &[u8]) ->
 
 // An effect on a target: its margin grows, and its sum and its mark go by the chance that a rule gives. How many effects no rule judged, 0 or 1. Of the
 // declared targets at most MOST_TARGETS have a row; the others count as places of people, and nothing of them is kept.
-fn add_effect(b: Branch, clock: Clock, e: Effect, rows: &mut Rows) -> u32
+#[inline(always)]
+fn add_effect(b: Branch, kind: u8, clock: Clock, e: Effect, rows: &mut Rows) -> u32
+    requires { JudgedAlike kind b.kind }
     ensures { Added (effect_on clock) b e.target e.intensity e.duration rows.old.sums rows.old.margins rows.old.facts result rows.new.sums rows.new.margins rows.new.facts }
 {
     if MOST_TARGETS <= e.target {
         return 0;
     }
     let i = e.target as usize;
-    let target = rows::unpack_facts(rows.facts[i]);
-    let effect = vulnerability::effect(clock, target, b.kind, e.intensity, e.duration);
-    let chance = effect.unwrap_or(0);
-    rows.sums[i] = rows::sum_after(rows.sums[i], b.frequency, chance);
     rows.margins[i] = rows::margin_after(rows.margins[i], b.above);
-    rows.facts[i] = rows::mark(rows.facts[i], chance, b.leak);
-    u32::from(effect.is_none())
+    let facts = rows.facts[i];
+    let target = rows::unpack_facts(facts);
+    match vulnerability::effect(clock, target, kind, e.intensity, e.duration) {
+        Some(0) => 0,
+        Some(chance) => {
+            rows.sums[i] = rows::sum_after(rows.sums[i], b.frequency, chance);
+            let marked = rows::mark(facts, chance, b.leak);
+            if marked != facts {
+                rows.facts[i] = marked;
+            }
+            0
+        }
+        None => 1,
+    }
 }
 
-// Takes the effects that the bytes begin with, in an outcome's branch, up to the first that is unsound or timed otherwise than the first.
-pub fn take_effects(
+// Takes effects of a run, in an outcome's branch, up to the first that is unsound, judging them as those of a kind whose effects are judged alike.
+#[inline(always)]
+fn take_run(
     b: Branch,
+    kind: u8,
+    run: Run,
     targets: u16,
-    most: u32,
     before: u32,
     bytes: &[u8],
     rows: &mut Rows,
 ) -> Taken
-    ensures count_value { (result.count ≡ taken_of (effect_on (timing_of bytes.now).clock) (timing_of bytes.now).kind (timing_of bytes.now).length targets b (figures b.next before rows.old.sums rows.old.margins rows.old.facts) bytes.now (alike_of bytes.now (min most ((length bytes.now - 6) / 10)))) × (result.at ≡ offset (timing_of bytes.now).length result.count) }
-    ensures facts_after { figures result.next result.unjudged rows.new.sums rows.new.margins rows.new.facts ≡ after_effects (effect_on (timing_of bytes.now).clock) b (figures b.next before rows.old.sums rows.old.margins rows.old.facts) (timing_of bytes.now).length bytes.now result.count }
+    requires judged_alike { JudgedAlike kind b.kind }
+    requires in_reach { (run.timing.length ≤ 10) × (run.top ≤ (length bytes.now - 6) / 10) }
+    ensures count_value { (result.count ≡ taken_of (effect_on run.timing.clock) run.timing.kind run.timing.length targets b (figures b.next before rows.old.sums rows.old.margins rows.old.facts) bytes.now run.top) × (result.at ≡ offset run.timing.length result.count) }
+    ensures facts_after { figures result.next result.unjudged rows.new.sums rows.new.margins rows.new.facts ≡ after_effects (effect_on run.timing.clock) b (figures b.next before rows.old.sums rows.old.margins rows.old.facts) run.timing.length bytes.now result.count }
 {
-    let run = run_of(most, bytes);
     let timing = run.timing;
     let mut taken = Taken {
         count: 0,
@@ -159,7 +175,7 @@ pub fn take_effects(
         let Some(e) = sound_effect(timing.kind, targets, b.kind, taken.next, p) else {
             break;
         };
-        let missed = add_effect(b, timing.clock, e, rows);
+        let missed = add_effect(b, kind, timing.clock, e, rows);
         taken = Taken {
             count: taken.count + 1,
             at: taken.at + timing.length,
@@ -168,4 +184,29 @@ pub fn take_effects(
         };
     }
     taken
+}
+
+// Takes the effects that the bytes begin with, in an outcome's branch, up to the first that is unsound or timed otherwise than the first. The kind of the
+// outcome is the same for all of them: each arm is a loop of its own, in which the rule is known. A fire is judged as a pool fire, and an outcome of another
+// kind harms nothing.
+pub fn take_effects(
+    b: Branch,
+    targets: u16,
+    most: u32,
+    before: u32,
+    bytes: &[u8],
+    rows: &mut Rows,
+) -> Taken
+    ensures count_value { (result.count ≡ taken_of (effect_on (timing_of bytes.now).clock) (timing_of bytes.now).kind (timing_of bytes.now).length targets b (figures b.next before rows.old.sums rows.old.margins rows.old.facts) bytes.now (alike_of bytes.now (min most ((length bytes.now - 6) / 10)))) × (result.at ≡ offset (timing_of bytes.now).length result.count) }
+    ensures facts_after { figures result.next result.unjudged rows.new.sums rows.new.margins rows.new.facts ≡ after_effects (effect_on (timing_of bytes.now).clock) b (figures b.next before rows.old.sums rows.old.margins rows.old.facts) (timing_of bytes.now).length bytes.now result.count }
+{
+    let run = run_of(most, bytes);
+    match b.kind {
+        outcome::POOL_FIRE..=outcome::FIREBALL => {
+            take_run(b, outcome::POOL_FIRE, run, targets, before, bytes, rows)
+        }
+        outcome::FLASH_FIRE => take_run(b, outcome::FLASH_FIRE, run, targets, before, bytes, rows),
+        outcome::EXPLOSION => take_run(b, outcome::EXPLOSION, run, targets, before, bytes, rows),
+        _ => take_run(b, outcome::NO_EFFECT, run, targets, before, bytes, rows),
+    }
 }

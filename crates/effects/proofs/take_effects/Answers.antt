@@ -1,97 +1,14 @@
--- `effects::take_effects` meets its contract: each turn takes an effect more. Assumes nothing.
-use mathlib.Core.Path.{◌≡◌, refl, sym, ◌∙◌, ap}
-use mathlib.Core.Bool.{Bool, true, false}
-use mathlib.Core.List.{List}
-use Prim.Native.Nat.{ℕ, ◌+◌, ◌-◌, ◌/◌, ◌<◌, ◌≤◌, min}
-use native.Mathlib.Omega.{arith}
-use lib.ListN.{length}
-use Rattle.terms.specs.declared.Clock.{Clock}
-use Rattle.state.specs.declared.Branch.{Branch}
-use Rattle.vulnerability.specs.Effect.{effect_on}
-use Rattle.effects.specs.declared.Timing.{Timing}
-use Rattle.effects.specs.Effects.{Figures, offset, after_effects, sound}
-use Rattle.effects.specs.Timings.{timing_of, alike_of}
-use Rattle.effects.proofs.Laws.{window, effects_none, effects_next, offset_none, offset_more, offset_most, step_parts, sound_at_lem}
-use Rattle.effects.proofs.LeadingLaws.{passes_more, leading_only}
-use Rattle.effects.proofs.TimingLaws.{length_most, alike_most, top_most}
-use Rattle.effects.proofs.take_effects.Invariants.{sound_at}
+-- `effects::take_effects` meets its contract: the rule of each kind of outcome. Assumes nothing.
+use mathlib.Core.Path.{sym}
+use mathlib.Core.Logic.{inl, inr}
+use borrow.Author.Rules.{rules}
+use Rattle.vulnerability.proofs.FormLaws.{fires_alike, none_alike}
+use Rattle.effects.proofs.take_effects.Goals.{in_default-via-then-b-lt1, in_default-via-else-b-lt1+else-b-lt4}
 use Rattle.effects.proofs.take_effects.Goals as goal
 
-pub loop-init : goal.loop-init
-loop-init c = (refl, offset_none _, effects_none _ _ _ _ _, λ i w. let z : ⊥ = omega arith in absurd z)
+pub take_run-requires-in-1-to-3-clause-judged_alike : goal.take_run-requires-in-1-to-3-clause-judged_alike
+take_run-requires-in-1-to-3-clause-judged_alike c clock u q d = sym (fires_alike _ clock u _ q d (search rules) (search rules))
 
--- sixteen bytes are there to read the next effect in
-in_reach : (l : List ℕ) (t : Timing) (a n top most : ℕ) → t ≡ timing_of l → a ≡ offset t.length n → n < top → top ≡ alike_of l (min most ((length l - 6) / 10)) → a + 16 ≤ length l
-in_reach l t a n top most e p w q =
-    let x : t.length ≤ 10 = rw e (length_most l) in
-    omega (arith, offset_most t.length n x, p, w, q, alike_most l (min most ((length l - 6) / 10)))
-
-pub overflow_add-p : goal.overflow_add-p
-overflow_add-p c =
-    let v = c.loop.invariant in
-    omega (arith, in_reach _ _ _ _ _ _ c.run_of-run.ensures.0 v.1 (omega (arith, v.0, c.loop-test.true)) c.run_of-run.ensures.1, c.well_formed)
-
-pub slice_bounds-p-end : goal.slice_bounds-p-end
-slice_bounds-p-end c =
-    let v = c.loop.invariant in
-    omega (arith, in_reach _ _ _ _ _ _ c.run_of-run.ensures.0 v.1 (omega (arith, v.0, c.loop-test.true)) c.run_of-run.ensures.1)
-
-pub overflow_add-taken : goal.overflow_add-taken
-overflow_add-taken c = omega (arith, c.loop.invariant.0, c.loop-test.true, top_most _ _ _ _ c.run_of-run.ensures.1, c.well_formed)
-
-pub overflow_add-taken-in-loop : goal.overflow_add-taken-in-loop
-overflow_add-taken-in-loop c =
-    let v = c.loop.invariant in
-    let w : c.run_of-run.result.timing.length ≤ 10 = rw c.run_of-run.ensures.0 (length_most c.args.bytes.now) in
-    omega (arith, w, in_reach _ _ _ _ _ _ c.run_of-run.ensures.0 v.1 (omega (arith, v.0, c.loop-test.true)) c.run_of-run.ensures.1, c.well_formed)
-
--- whether the effect that is read is sound, in the bytes from its place on
-here_sound : (clock : Clock) (k w targets : ℕ) (b : Branch) (g h : Figures) (l : List ℕ) (n a : ℕ) → a ≡ offset w n → h ≡ after_effects (effect_on clock) b g w l n → (t : Bool)
-    → sound k targets b.kind h.next (window l a) ≡ t → sound_at clock k w targets b g l n ≡ t
-here_sound clock k w targets b g h l n a p e t q = rw (← e, ← p) (sym (sound_at_lem k targets b.kind h.next l a) ∙ q)
-
-pub loop-preserved : goal.loop-preserved
-loop-preserved c =
-    let v = c.loop.invariant in
-    let t = c.loop.taken in
-    let g = c.args in
-    let e = c.in-Some.ensures in (
-      ap (λ (x : ℕ). x + 1) v.0,
-      ap (λ (x : ℕ). x + c.run_of-run.result.timing.length) v.1 ∙ offset_more _ t.count,
-      effects_next _ _ _ _ _ _ g.bytes.now t.count t.at v.1 v.2 (step_parts _ _ _ _ e.1 e.2 e.3 c.saturating_add.ensures c.add_effect-missed.ensures),
-      passes_more _ t.count v.3 (here_sound _ _ _ g.targets g.b _ _ g.bytes.now t.count t.at v.1 v.2 true e.0),
-    )
-
-pub returns-after-loop : goal.returns-after-loop
-returns-after-loop c =
-    let v = c.loop.invariant in
-    let r = c.run_of-run in
-    rw (← r.ensures.0, ← r.ensures.1)
-    record {
-      count_value = (
-        leading_only _ _ c.loop.taken.count
-            record { within = omega (arith, v.0, c.loop.auto.counter-end); passes = v.3; stops = λ w. let z : ⊥ = omega (arith, w, v.0, c.loop-test.false) in absurd z },
-        v.1,
-      );
-      facts_after = v.2;
-    }
-
-pub returns-in_default : goal.returns-in_default
-returns-in_default c =
-    let v = c.loop.invariant in
-    let t = c.loop.taken in
-    let r = c.run_of-run in
-    let g = c.args in
-    rw (← r.ensures.0, ← r.ensures.1)
-    record {
-      count_value = (
-        leading_only _ _ t.count
-            record {
-              within = omega (arith, v.0, c.loop-test.true);
-              passes = v.3;
-              stops = λ w. here_sound _ _ _ g.targets g.b _ _ g.bytes.now t.count t.at v.1 v.2 false c.in_default.ensures;
-            },
-        v.1,
-      );
-      facts_after = v.2;
-    }
+pub take_run-requires-in_default-clause-judged_alike : goal.take_run-requires-in_default-clause-judged_alike
+take_run-requires-in_default-clause-judged_alike c clock u q d =
+    sym (none_alike _ clock u _ q d (elim c.in_default.branch [ in_default-via-then-b-lt1 w ↦ inl (search rules) | in_default-via-else-b-lt1+else-b-lt4 w ↦ inr (search rules) ]))
