@@ -88,10 +88,6 @@ effects_next judge b g h k w l n i p e f =
 pub sound_at_lem : (k targets kind next : ℕ) (l : List ℕ) (i : ℕ) → sound k targets kind next (window l i) ≡ sound k targets kind next (drop i l)
 sound_at_lem k targets kind next l i = ap (sound k targets kind next) (window_is l i) ∙ sound_window k targets kind next (drop i l)
 
--- the last byte of kind 8
-pub unit_at : (l : List ℕ) (i : ℕ) → field (window l i) 9 1 ≡ field (drop i l) 9 1
-unit_at l i = ap (λ (p : List ℕ). field p 9 1) (window_is l i) ∙ field_window (drop i l) 9 1 (omega arith)
-
 -- what an effect that is read in some bytes leaves
 pub step_parts : {judge : Judge} {b : Branch} {s m f s' m' f' : List ℕ} {missed t q d : ℕ} (x u v : ℕ) (p : List ℕ) → t ≡ field p 1 2 → q ≡ field p 3 4 → d ≡ field p 7 2 → v ≡ up_to most32 u missed → Added judge b t q d s m f missed s' m' f'
     → figures (t + 1) v s' m' f' ≡ after_effect judge b (figures x u s m f) p

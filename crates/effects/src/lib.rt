@@ -130,11 +130,10 @@ fn add_effect(b: Branch, kind: u8, clock: Clock, e: Effect, rows: &mut Rows) -> 
         return 0;
     }
     let i = e.target as usize;
-    rows.margins[i] = rows::margin_after(rows.margins[i], b.above);
     let facts = rows.facts[i];
+    rows.margins[i] = rows::margin_after(rows.margins[i], b.above);
     let target = rows::unpack_facts(facts);
     match vulnerability::effect(clock, target, kind, e.intensity, e.duration) {
-        Some(0) => 0,
         Some(chance) => {
             rows.sums[i] = rows::sum_after(rows.sums[i], b.frequency, chance);
             let marked = rows::mark(facts, chance, b.leak);

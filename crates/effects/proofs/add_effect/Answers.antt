@@ -12,12 +12,6 @@ use Rattle.effects.proofs.add_effect.Goals as goal
 pub returns-then-e-ge-MOST_TARGETS : goal.returns-then-e-ge-MOST_TARGETS
 returns-then-e-ge-MOST_TARGETS c = past_added _ (people_judged _ _) _ _ _ _ _ _ _ c.if-e-ge-MOST_TARGETS.true
 
-pub returns-in-Some-eq0 : goal.returns-in-Some-eq0
-returns-in-Some-eq0 c =
-    let j = c.in-Some-eq0.ensures ∙ c.requires _ _ _ _ in
-    spared _ _ _ _ _ _ _ _ c.if-e-ge-MOST_TARGETS.false c.unpack_facts-target.ensures c.margin_after.ensures
-    (sym c.in-Some-eq0.field-0-test ∙ ap (λ (x : Judged). x.chance) j) (ap (λ (x : Judged). pick x.judged 0 1) j) (search rules)
-
 pub returns-in-None : goal.returns-in-None
 returns-in-None c =
     let j = c.in-None.ensures ∙ c.requires _ _ _ _ in
