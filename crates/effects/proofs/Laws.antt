@@ -1,6 +1,6 @@
 -- Laws of effects taken one after the other. Assumes nothing.
 use mathlib.Core.Path.{◌≡◌, refl, ◌∙◌, ap}
-use mathlib.Core.Bool.{Bool, true, false}
+use mathlib.Core.Bool.{Bool}
 use mathlib.Core.List.{List}
 use Prim.Native.Nat.{ℕ, zero, suc, ◌+◌, ◌-◌, ◌*◌, ◌≤◌}
 use native.Mathlib.Omega.{arith}
@@ -13,7 +13,7 @@ use Rattle.model.specs.Machine.{up_to, most32, store, row_of, row_after}
 use Rattle.model.specs.Verdict.{field}
 use Rattle.effects.specs.Judging.{Judge, judged_in}
 use Rattle.effects.specs.Effects.{Figures, figures, after_effect, offset, after_effects, sound}
-use Rattle.effects.specs.Steps.{Taking, next_in}
+use Rattle.effects.specs.Steps.{Added}
 
 -- sixteen bytes have every field of an effect
 field_window : (l : List ℕ) (i n : ℕ) → i + n ≤ 16 → field (take 16 l) i n ≡ field l i n
@@ -88,36 +88,9 @@ effects_next judge b g h k w l n i p e f =
 pub sound_at_lem : (k targets kind next : ℕ) (l : List ℕ) (i : ℕ) → sound k targets kind next (window l i) ≡ sound k targets kind next (drop i l)
 sound_at_lem k targets kind next l i = ap (sound k targets kind next) (window_is l i) ∙ sound_window k targets kind next (drop i l)
 
--- the last byte of kind 8
-pub unit_at : (l : List ℕ) (i : ℕ) → field (window l i) 9 1 ≡ field (drop i l) 9 1
-unit_at l i = ap (λ (p : List ℕ). field p 9 1) (window_is l i) ∙ field_window (drop i l) 9 1 (omega arith)
-
--- effects that no rule judged, one more or as many as before
-pub more_missed : (b m x y : ℕ) → y ≡ m + x → up_to most32 b y ≡ up_to most32 (up_to most32 b m) x
-more_missed b m x y e = omega arith
-
--- an effect that was taken, and one that was not
-step_known : (t : Bool) (x y : ℕ) → x ≡ pick t (y + 1) 0 → (x ≡ 0 → ⊥) → t ≡ true
-step_known true x y e n = refl
-step_known false x y e n = absurd (n e)
-
-step_unknown : (t : Bool) (x y : ℕ) → x ≡ pick t (y + 1) 0 → x ≡ 0 → t ≡ false
-step_unknown true x y e z = let w : ⊥ = omega arith in absurd w
-step_unknown false x y e z = refl
-
-module _ (k targets : ℕ) (b : Branch) (x : ℕ) (p : List ℕ) (r : ℕ) (next : r ≡ next_in k targets b x p) where
-  pub step_sound : (r ≡ 0 → ⊥) → sound k targets b.kind x p ≡ true
-  step_sound n = step_known (sound k targets b.kind x p) r (field p 1 2) next n
-
-  pub step_unsound : r ≡ 0 → sound k targets b.kind x p ≡ false
-  step_unsound z = step_unknown (sound k targets b.kind x p) r (field p 1 2) next z
-
-  -- what it leaves
-  pub step_parts : {judge : Judge} {s m f s' m' f' : List ℕ} {missed : ℕ} (u v : ℕ) → (r ≡ 0 → ⊥) → v ≡ up_to most32 u missed → Taking judge k targets b x p s m f missed s' m' f' → figures r v s' m' f' ≡ after_effect judge b (figures x u s m f) p
-  step_parts u v n e t =
-      let a = t.taken (step_sound n) in
-      let z : r ≡ field p 1 2 + 1 = next ∙ ap (λ (y : Bool). pick y (field p 1 2 + 1) 0) (step_sound n) in
-      effect_parts _ b (figures x u _ _ _) p _ _ _ r v _ z (e ∙ ap (up_to most32 u) a.judging) refl a.sums a.margins a.facts
-
-  pub step_left : {judge : Judge} {s m f s' m' f' : List ℕ} {missed : ℕ} (u : ℕ) → r ≡ 0 → Taking judge k targets b x p s m f missed s' m' f' → figures x u s' m' f' ≡ figures x u s m f
-  step_left u z t = let a = t.left (step_unsound z) in rw (a.0, a.1, a.2) refl
+-- what an effect that is read in some bytes leaves
+pub step_parts : {judge : Judge} {b : Branch} {s m f s' m' f' : List ℕ} {missed t q d : ℕ} (x u v : ℕ) (p : List ℕ) → t ≡ field p 1 2 → q ≡ field p 3 4 → d ≡ field p 7 2 → v ≡ up_to most32 u missed → Added judge b t q d s m f missed s' m' f'
+    → figures (t + 1) v s' m' f' ≡ after_effect judge b (figures x u s m f) p
+step_parts {judge} {b} x u v p et eq ed e a =
+    let here = (rw (et, eq, ed) at a) in
+    effect_parts judge b (figures x u _ _ _) p _ _ _ _ v _ (ap (λ y. y + 1) et) (e ∙ ap (up_to most32 u) here.judging) refl here.sums here.margins here.facts

@@ -1,9 +1,9 @@
 -- The figures of a target after an effect, and a store of what stands at a place already. Assumes nothing.
-use mathlib.Core.Path.{◌≡◌, refl, sym}
+use mathlib.Core.Path.{◌≡◌, refl, sym, ◌∙◌}
 use mathlib.Core.Bool.{true}
 use mathlib.Core.List.{List}
 use Prim.Native.Nat.{ℕ, ◌+◌, ◌<◌, ◌≤◌}
-use lib.ListN.{get_or}
+use lib.ListN.{get_or, set}
 use lib.Seq.{set-get_or}
 use Rattle.numeric.specs.Choice.{pick}
 use Rattle.numeric.specs.Share.{share_of}
@@ -29,35 +29,38 @@ fetched : (f : List ℕ) (i : ℕ) → i < 256 → get_or f i 0 ≡ fetch 256 f 
 unfolding fetch
 fetched f i h = lt_case _ _ _ _ h refl
 
--- a target that has a row, its margin grown, and its facts
-module _ (judge : Judge) (b : Branch) (i q d : ℕ) (s m f m' : List ℕ) (row : i < 256) (grown : m' ≡ store 256 m i (up_to most32 (get_or m i 0) (b.above + 1))) (u : Target) (known : u ≡ unpacked_facts (get_or f i 0)) where
+-- a target that has a row, its facts, and its margin grown
+module _ (judge : Judge) (b : Branch) (i q d : ℕ) (s m f : List ℕ) (row : i < 256) {u : Target} (known : u ≡ unpacked_facts (get_or f i 0)) {x : ℕ} (grown : x ≡ up_to most32 (get_or m i 0) (b.above + 1)) where
   abbrev here : Judged
   here = judge u b.kind q d
 
   here_is : here ≡ effect_at judge f b.kind i q d
   here_is = rw (← fetched f i row, known) refl
 
-  -- an effect of a chance that a rule gives
-  pub added : (c : ℕ) (s' f' : List ℕ) → c ≡ here.chance → true ≡ here.judged → s' ≡ store 256 s i (up_to most64 (get_or s i 0) (share_of b.frequency c))
-      → f' ≡ store 256 f i (marked_facts (get_or f i 0) c b.leak) → Added judge b i q d s m f 0 s' m' f'
+  stored : (l : List ℕ) {v w : ℕ} → v ≡ w → set l i v ≡ store 256 l i w
+  unfolding store
+  stored l e = lt_case _ _ _ _ row (rw e refl)
+
+  pub added : {c missed y : ℕ} {f' : List ℕ} → c ≡ here.chance → missed ≡ pick here.judged 0 1 → y ≡ up_to most64 (get_or s i 0) (share_of b.frequency c) → f' ≡ set f i (marked_facts (get_or f i 0) c b.leak)
+      → Added judge b i q d s m f missed (set s i y) (set m i x) f'
   unfolding row_after
-  added c s' f' e j es ef =
+  added e j es ef =
       record {
-        judging = rw (← here_is, ← j) refl;
-        sums = rw (← here_is, ← e) es;
-        margins = grown;
-        facts = rw (← here_is, ← e) ef;
+        judging = rw (← here_is) j;
+        sums = rw (← here_is, ← e) (stored s es);
+        margins = stored m grown;
+        facts = rw (← here_is, ← e) (ef ∙ stored f refl);
       }
 
-  -- an effect whose chance is 0: the margin alone grows
-  pub spared : (j : Judged) (missed : ℕ) → j ≡ here → j.chance ≡ 0 → missed ≡ pick j.judged 0 1 → get_or s i 0 ≤ most64 → Added judge b i q d s m f missed s m' f
+  -- one whose chance is 0: the margin alone grows
+  pub spared : {missed : ℕ} → 0 ≡ here.chance → missed ≡ pick here.judged 0 1 → get_or s i 0 ≤ most64 → Added judge b i q d s m f missed s (set m i x) f
   unfolding row_after
-  spared j missed e z v w =
+  spared e j w =
       record {
-        judging = rw (← here_is, ← e) v;
-        sums = rw (← here_is, ← e) (store_same 256 _ _ _ (zero_sum (row_of s m f i) b _ z w));
-        margins = grown;
-        facts = rw (← here_is, ← e) (store_same 256 _ _ _ (zero_facts (row_of s m f i) b _ z));
+        judging = rw (← here_is) j;
+        sums = rw (← here_is, ← e) (store_same 256 _ _ _ (zero_sum (row_of s m f i) b 0 refl w));
+        margins = stored m grown;
+        facts = rw (← here_is, ← e) (store_same 256 _ _ _ (zero_facts (row_of s m f i) b 0 refl));
       }
 
 -- a target that has none counts as a place of people, on which every effect is judged

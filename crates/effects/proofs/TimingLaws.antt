@@ -2,7 +2,7 @@
 use mathlib.Core.Path.{◌≡◌, refl, sym, ◌∙◌, subst}
 use mathlib.Core.Bool.{Bool, true, false}
 use mathlib.Core.List.{List}
-use Prim.Native.Nat.{ℕ, ◌<◌, ◌≤◌, min}
+use Prim.Native.Nat.{ℕ, ◌<◌, ◌≤◌}
 use native.Mathlib.Decide.{ℕ_discrete}
 use native.Mathlib.Omega.{arith}
 use lib.Dec.{T}
@@ -23,16 +23,13 @@ unfolding timing_of
 length_most l = eq_both (λ (t : Timing). t.length ≤ 10) _ _ _ _ (omega arith) (omega arith)
 
 -- those timed alike are some of the first n
-unit_most : (u : ℕ) (l : List ℕ) (n : ℕ) → with_unit u l n ≤ n
+pub unit_most : (u : ℕ) (l : List ℕ) (n : ℕ) → with_unit u l n ≤ n
 unfolding with_unit
 unit_most u l n = lt_both (λ (x : ℕ). x ≤ n) _ _ _ _ (omega arith) (leading_is _ n).within
 
 pub alike_most : (l : List ℕ) (n : ℕ) → alike_of l n ≤ n
 unfolding alike_of
 alike_most l n = eq_both (λ (x : ℕ). x ≤ n) _ _ _ _ (unit_most _ l n) (omega arith)
-
-pub top_most : (l : List ℕ) (x most k : ℕ) → x ≡ alike_of l (min most k) → x ≤ most
-top_most l x most k e = omega (arith, e, alike_most l (min most k))
 
 -- by the kind of the first
 pub timing_eight : (l : List ℕ) → get_or l 0 0 ≡ 8 → record { kind = 8; length = 10; clock = clock_of (field l 9 1) } ≡ timing_of l

@@ -1,5 +1,7 @@
 -- For the proofs. The judged chance of an effect, by any function that judges. Assumes nothing.
-use Rattle.std.specs.Prelude.{List, ℕ}
+use Rattle.std.specs.Prelude.{◌≡◌, List, ℕ}
+use Rattle.terms.specs.declared.Clock.{Clock}
+use Rattle.vulnerability.specs.Effect.{effect_on}
 use Rattle.terms.specs.declared.Judged.{Judged}
 use Rattle.terms.specs.declared.Target.{Target}
 use Rattle.model.specs.Bounds.{most_targets}
@@ -17,3 +19,7 @@ effect_at judge facts k i q d = judge (unpacked_facts (fetch most_targets facts 
 -- by its record, on the target that it names
 abbrev pub judged_in : Judge → List ℕ → ℕ → List ℕ → Judged
 judged_in judge facts k p = effect_at judge facts k (field p 1 2) (field p 3 4) (field p 7 2)
+
+-- outcomes of two kinds whose effects are judged alike
+abbrev pub JudgedAlike : ℕ → ℕ → Type 0
+JudgedAlike k l = (clock : Clock) (u : Target) (q d : ℕ) → effect_on clock u k q d ≡ effect_on clock u l q d

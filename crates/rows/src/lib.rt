@@ -11,6 +11,7 @@ use terms::{Target, class};
 const PEOPLE: u64 = class::PEOPLE as u64;
 
 // A target's facts in one number, the lowest bit its mark on the domino list.
+#[tactic(auto, unfolding(model::specs::Machine::packed_facts))]
 pub fn pack_facts(f: Target) -> u64
     ensures { result ≡ packed_facts f }
 {
@@ -20,6 +21,7 @@ pub fn pack_facts(f: Target) -> u64
     volume * 64 + class * 8 + setting * 2
 }
 
+#[tactic(auto, unfolding(model::specs::Machine::unpacked_facts))]
 pub fn unpack_facts(x: u64) -> Target
     ensures { result ≡ unpacked_facts x }
 {
@@ -31,31 +33,27 @@ pub fn unpack_facts(x: u64) -> Target
 }
 
 // Equipment is marked by an effect that lists it. A mark stays, and most effects find one.
+#[tactic(auto, unfolding(model::specs::Machine::marked_facts, numeric::specs::Choice::if_eq))]
 pub fn mark(x: u64, chance: u32, leak: u64) -> u64
     ensures { result ≡ marked_facts x chance leak }
 {
-    if x % 2 == 1 {
-        return x;
+    if x % 2 == 0 && x / 8 % 8 != PEOPLE && vulnerability::listed(chance, leak) {
+        x / 2 * 2 + 1
+    } else {
+        x
     }
-    if x / 8 % 8 == PEOPLE {
-        return x;
-    }
-    if vulnerability::listed(chance, leak) {
-        return x / 2 * 2 + 1;
-    }
-    x
 }
 
 // A target's sum after an effect of a chance, in an outcome of a frequency.
 pub fn sum_after(sum: u64, frequency: u64, chance: u32) -> u64
     ensures { result ≡ up_to most64 sum (share_of frequency chance) }
 {
-    numeric::add64(sum, numeric::share(frequency, chance))
+    sum.saturating_add(numeric::share(frequency, chance))
 }
 
 // Its margin after an effect, in an outcome with branchings above it.
 pub fn margin_after(margin: u32, above: u32) -> u32
     ensures { result ≡ up_to most32 margin (above + 1) }
 {
-    numeric::add32(margin, numeric::add32(above, 1))
+    margin.saturating_add(above.saturating_add(1))
 }

@@ -1,29 +1,23 @@
 -- `effects::run_of` meets its contract, by the kind of the first effect. Assumes nothing.
-use mathlib.Core.Path.{◌≡◌, sym, ◌∙◌}
+use mathlib.Core.Path.{sym, ◌∙◌}
 use native.Mathlib.Omega.{arith}
-use lib.ListN.{get_or}
-use Rattle.effects.proofs.TimingLaws.{timing_eight, timing_six, alike_eight, alike_six}
+use borrow.Author.Rules.{rules}
+use Rattle.effects.proofs.TimingLaws.{timing_eight, timing_six, alike_eight, alike_six, unit_most}
 use Rattle.effects.proofs.run_of.Goals as goal
 
-pub with_unit-alike-requires : goal.with_unit-alike-requires
-with_unit-alike-requires c = let r = c.reach-top.ensures in omega (arith, r)
+pub returns-in-8 : goal.returns-in-8
+returns-in-8 c =
+    let eight = sym c.kind.ensures ∙ c.in-8.is in
+    let l = c.args.bytes.now in
+    record {
+      in_reach = (omega arith, omega (arith, c.with_unit.ensures, unit_most c.byte_at-unit.result l c.reach-top.result, c.reach-top.ensures));
+      alike = (rw (c.clock_of.ensures, c.byte_at-unit.ensures) (timing_eight l eight), rw (c.with_unit.ensures, c.byte_at-unit.ensures, c.reach-top.ensures) (alike_eight l _ eight));
+    }
 
-pub returns-then-kind-eq-TIMED_EFFECT : goal.returns-then-kind-eq-TIMED_EFFECT
-returns-then-kind-eq-TIMED_EFFECT c =
-    let u = c.before in
-    let b = u.before in
-    let k = b.before in
-    let r = k.before in
-    let s = r.before.before in
-    let eight = sym s.requires ∙ k.if-kind-eq-TIMED_EFFECT.true in
-    let l = s.args.bytes.now in
-    ((rw (c.clock_of.ensures, b.byte_at-unit.ensures) (timing_eight l eight)), rw (u.with_unit-alike.ensures, b.byte_at-unit.ensures, r.reach-top.ensures) (alike_eight l _ eight))
-
-pub returns : goal.returns
-returns c =
-    let k = c.before in
-    let r = k.before in
-    let s = r.before.before in
-    let l = s.args.bytes.now in
-    let other : get_or l 0 0 ≡ 8 → ⊥ = λ z. k.if-kind-eq-TIMED_EFFECT.false (s.requires ∙ z) in
-    (rw c.clock_of-2.ensures (timing_six l other), r.reach-top.ensures ∙ alike_six l _ other)
+pub returns-in_default : goal.returns-in_default
+returns-in_default c =
+    let l = c.args.bytes.now in
+    record {
+      in_reach = (omega arith, omega (arith, c.reach-top.ensures));
+      alike = (rw c.clock_of-in_default.ensures (timing_six l (search rules)), c.reach-top.ensures ∙ alike_six l _ (search rules));
+    }

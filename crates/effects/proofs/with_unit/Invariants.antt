@@ -2,7 +2,7 @@
 use mathlib.Core.Path.{◌≡◌}
 use mathlib.Core.Bool.{Bool, true, false}
 use mathlib.Core.List.{List}
-use Prim.Native.Nat.{ℕ, ◌-◌, ◌<◌, ◌≤◌}
+use Prim.Native.Nat.{ℕ, ◌<◌}
 use lib.ListN.{drop}
 use Rattle.numeric.specs.Choice.{if_eq}
 use Rattle.effects.specs.Effects.{offset}
@@ -14,7 +14,4 @@ abbrev pub has : ℕ → List ℕ → ℕ → Bool
 has u l i = if_eq (field (drop (offset 10 i) l) 9 1) u true false
 
 abbrev pub invariant-loop-n : goal.invariant-loop-n
-invariant-loop-n l = (l.n ≤ l.top) × ((i : ℕ) → i < l.n → has l.unit l.bytes i ≡ true)
-
-abbrev pub decreases-loop-n : goal.decreases-loop-n
-decreases-loop-n l = l.top - l.n
+invariant-loop-n l = (i : ℕ) → i < l.n → has l.unit l.bytes i ≡ true
