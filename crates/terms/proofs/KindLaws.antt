@@ -15,22 +15,9 @@ module _ (kind : ℕ) (fire flash blast other : Judged) {r : Judged} where
   unfolding by_kind
   by_fire n h e = ne_case _ _ _ _ (λ z. omega arith) (ne_case _ _ _ _ (λ z. omega arith) (ne_case _ _ _ _ n (le_case _ _ _ _ h e)))
 
-  pub by_flash : kind ≡ 4 → r ≡ flash → r ≡ by_kind kind fire flash blast other
-  unfolding by_kind
-  by_flash h e = ne_case _ _ _ _ (λ z. omega arith) (eq_case _ _ _ _ h e)
-
-  pub by_blast : kind ≡ 5 → r ≡ blast → r ≡ by_kind kind fire flash blast other
-  unfolding by_kind
-  by_blast h e = eq_case _ _ _ _ h e
-
   pub by_other : 3 < kind → (kind ≡ 4 → ⊥) → (kind ≡ 5 → ⊥) → r ≡ other → r ≡ by_kind kind fire flash blast other
   unfolding by_kind
   by_other h m n e = ne_case _ _ _ _ n (ne_case _ _ _ _ m (ne_case _ _ _ _ (λ z. omega arith) (gt_case _ _ _ _ h e)))
-
-  -- neither a fire nor an explosion, where the other two rules agree
-  pub by_neither : 3 < kind → (kind ≡ 5 → ⊥) → r ≡ flash → r ≡ other → r ≡ by_kind kind fire flash blast other
-  unfolding by_kind
-  by_neither h n f e = ne_case _ _ _ _ n (eq_both (λ (x : Judged). r ≡ x) kind 4 _ _ f (ne_case _ _ _ _ (λ z. omega arith) (gt_case _ _ _ _ h e)))
 
 -- what holds of each rule holds of the one that the kind has
 pub by_all : (P : Judged → Type 0) (kind : ℕ) (fire flash blast other : Judged) → P fire → P flash → P blast → P other → P (by_kind kind fire flash blast other)
