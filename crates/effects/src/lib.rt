@@ -45,11 +45,17 @@ struct Effect {
     duration: u16,
 }
 
-// How many effects, of ten bytes at most, begin where sixteen bytes are there to read one in: of so many at most.
+// How many effects, of ten bytes at most, begin where sixteen bytes are there to read one in: of so many at most. Where all are there, which is the rule, no
+// division is made: it would weigh on runs of one or two effects.
 fn reach(most: u32, len: usize) -> usize
     ensures { result ≡ min most ((len - 6) / 10) }
 {
-    (most as usize).min(len.saturating_sub(6) / 10)
+    let all = most as usize;
+    if all * 10 + 6 <= len {
+        all
+    } else {
+        len.saturating_sub(6) / 10
+    }
 }
 
 // How many of the first effects of kind 8 have a unit; none has a number that is no unit.
@@ -146,7 +152,8 @@ fn add_effect(b: Branch, kind: u8, clock: Clock, e: Effect, rows: &mut Rows) -> 
     }
 }
 
-// Takes effects of a run, in an outcome's branch, up to the first that is unsound, judging them as those of a kind whose effects are judged alike.
+// Takes effects of a run, in an outcome's branch, up to the first that is unsound, judging them as those of a kind whose effects are judged alike. Inlined, as
+// what it calls, so that each call has a loop in which the kind is known.
 #[inline(always)]
 fn take_run(
     b: Branch,
