@@ -62,6 +62,7 @@ fn column_of(rate: u32) -> usize
 }
 
 // The chance of a curve from 1 to 13 at a rate; 0 of any other curve.
+#[tactic(auto, using(crate::proofs::Laws::curve_at, crate::proofs::Laws::no_curve))]
 pub fn chance(curve: u8, rate: u32) -> u32
     ensures { result ≡ ignition curve rate }
 {

@@ -7,7 +7,7 @@ use borrow.Rule.Slice.PartMut.{put_mid}
 use Rattle.numeric.specs.Choice.{pick, if_eq, if_le}
 use Rattle.numeric.proofs.ChoiceLaws.{eq_case, ne_case, le_case, gt_case, eq_both}
 use Rattle.state.specs.declared.TargetReport.{TargetReport}
-use Rattle.lines.specs.Text.{appended, decimal, end_word, grade_word, domino_word, judged_words}
+use Rattle.lines.specs.Text.{appended, decimal, grade_word, domino_word, judged_words}
 use Rattle.lines.proofs.NumeralLaws.{decimal_length}
 
 -- with room
@@ -50,20 +50,12 @@ module _ (text : List ℕ) (len at : ℕ) (w : List ℕ) (e : length text ≡ 25
       let k : length (take len text) ≡ at = take_count text len e ∙ sym a in
       sym (append_full (take len text) w (omega arith))
 
--- a word of at most ten bytes and a number of a u64 behind a text
+-- a word and a number of a u64 behind a text that leaves them room
 abbrev pub figure : List ℕ → List ℕ → ℕ → List ℕ
 figure a w n = appended (appended a w) (decimal n)
 
--- on a text of at most b bytes
-module _ (a w : List ℕ) (n b : ℕ) (s : length a ≤ b) (m : length w ≤ 10) (f : n < 2 ^ 64) (r : b + 30 ≤ 256) where
-  pub figure_is : figure a w n ≡ a ++ w ++ decimal n
-  figure_is =
-      let d = decimal_length n f in
-      ap (λ (x : List ℕ). appended x (decimal n)) (append_fits a w (omega arith))
-      ∙ append_fits (a ++ w) (decimal n) (rw length-append (omega arith))
-
-  pub figure_short : length (a ++ w ++ decimal n) ≤ b + 30
-  figure_short = let d = decimal_length n f in rw (length-append, length-append) (omega arith)
+pub figure_fits : (a w : List ℕ) (n : ℕ) → length a + length w ≤ 236 → n < 2 ^ 64 → figure a w n ≡ a ++ w ++ decimal n
+figure_fits a w n s f = grind (arith, length-append, append_fits, decimal_length)
 
 -- where each side of a choice stands behind a text, the choice does
 behind : (t : List ℕ) (b : Bool) (u v x y : List ℕ) → u ≡ t ++ x → v ≡ t ++ y → pick b u v ≡ t ++ pick b x y
@@ -89,70 +81,24 @@ of_people m b x y z h = eq_case _ _ _ _ h refl
 pub of_equipment : (m : ℕ) (b : Bool) (x y z : List ℕ) → (m ≡ 0 → ⊥) → pick b y z ≡ if_eq m 0 x (pick b y z)
 of_equipment m b x y z h = ne_case _ _ _ _ h refl
 
--- on a text of at most 90 bytes
+-- on a text that leaves it room
 module _ (r : TargetReport) (f : r.grade < 2 ^ 64) where
-  judged_is : (t : List ℕ) → length t ≤ 90 → judged t r ≡ t ++ judged_words r
+  pub judged_is : (t : List ℕ) → length t ≤ 226 → judged t r ≡ t ++ judged_words r
   unfolding judged_words
   judged_is t s =
       behind_eq t r.class 0 _ _ _ _
-      (figure_is t grade_word r.grade 90 s (omega arith) f (omega arith) ∙ append_assoc t grade_word (decimal r.grade))
+      (figure_fits t grade_word r.grade (omega arith) f ∙ append_assoc t grade_word (decimal r.grade))
       (behind t r.listed _ _ _ _ (append_fits t domino_word (omega arith)) (sym (append-nil t)))
 
-  judged_short : length (judged_words r) ≤ 30
+  pub judged_short : length (judged_words r) ≤ 30
   unfolding judged_words
   judged_short =
       eq_both (λ (x : List ℕ). length x ≤ 30) r.class 0 _ _
-      (figure_short [] grade_word r.grade 0 (omega arith) (omega arith) f (omega arith))
+      (let d = decimal_length r.grade f in omega arith)
       (short_pick r.listed domino_word [] (omega arith) (omega arith))
 
-  -- the line of a target
-  pub judged_line : (t : List ℕ) → length t ≤ 90 → appended (judged t r) end_word ≡ t ++ judged_words r ++ end_word
-  judged_line t s =
-      let k = judged_short in
-      ap (λ (x : List ℕ). appended x end_word) (judged_is t s) ∙ append_fits (t ++ judged_words r) end_word (rw length-append (omega arith))
-
--- a text of at most b bytes, and the line's end
-ended : {r l : List ℕ} (t : List ℕ) (b : ℕ) → r ≡ appended l end_word → l ≡ t → length t ≤ b → b < 256 → r ≡ t ++ end_word
-ended t b e p s h = e ∙ ap (λ (x : List ℕ). appended x end_word) p ∙ append_fits t end_word (omega arith)
-
--- the lines of one, two and three figures, from the texts under way
-module _ {l₀ l₁ : List ℕ} (w : List ℕ) (n : ℕ) (m : length w ≤ 10) (f : n < 2 ^ 64) (e₀ : l₀ ≡ []) (e₁ : l₁ ≡ figure l₀ w n) where
-  one : l₁ ≡ w ++ decimal n
-  one = e₁ ∙ ap (λ (x : List ℕ). figure x w n) e₀ ∙ figure_is [] w n 0 (lit≤ tt) m f (lit≤ tt)
-
-  one_short : length (w ++ decimal n) ≤ 30
-  one_short = figure_short [] w n 0 (lit≤ tt) m f (lit≤ tt)
-
-  pub one_figure : {r : List ℕ} → r ≡ appended l₁ end_word → r ≡ w ++ decimal n ++ end_word
-  one_figure e = ended _ 30 e one one_short (lit≤ tt)
-
-  module _ {l₂ : List ℕ} (w' : List ℕ) (n' : ℕ) (m' : length w' ≤ 10) (f' : n' < 2 ^ 64) (e₂ : l₂ ≡ figure l₁ w' n') where
-    two : l₂ ≡ w ++ decimal n ++ w' ++ decimal n'
-    two = e₂ ∙ ap (λ (x : List ℕ). figure x w' n') one ∙ figure_is (w ++ decimal n) w' n' 30 one_short m' f' (lit≤ tt)
-
-    two_short : length (w ++ decimal n ++ w' ++ decimal n') ≤ 60
-    two_short = figure_short (w ++ decimal n) w' n' 30 one_short m' f' (lit≤ tt)
-
-    pub two_figures : {r : List ℕ} → r ≡ appended l₂ end_word → r ≡ w ++ decimal n ++ w' ++ decimal n' ++ end_word
-    two_figures e = ended _ 60 e two two_short (lit≤ tt)
-
-    module _ {l₃ : List ℕ} (w'' : List ℕ) (n'' : ℕ) (m'' : length w'' ≤ 10) (f'' : n'' < 2 ^ 64) (e₃ : l₃ ≡ figure l₂ w'' n'') where
-      three : l₃ ≡ w ++ decimal n ++ w' ++ decimal n' ++ w'' ++ decimal n''
-      three = e₃ ∙ ap (λ (x : List ℕ). figure x w'' n'') two ∙ figure_is (w ++ decimal n ++ w' ++ decimal n') w'' n'' 60 two_short m'' f'' (lit≤ tt)
-
-      three_short : length (w ++ decimal n ++ w' ++ decimal n' ++ w'' ++ decimal n'') ≤ 90
-      three_short = figure_short (w ++ decimal n ++ w' ++ decimal n') w'' n'' 60 two_short m'' f'' (lit≤ tt)
-
-      pub three_figures : {r : List ℕ} → r ≡ appended l₃ end_word → r ≡ w ++ decimal n ++ w' ++ decimal n' ++ w'' ++ decimal n'' ++ end_word
-      three_figures e = ended _ 90 e three three_short (lit≤ tt)
-
-      -- with what stands after the margin
-      pub three_judged : {j t : List ℕ} (r : TargetReport) → r.grade < 2 ^ 64 → j ≡ judged l₃ r → t ≡ appended j end_word
-          → t ≡ w ++ decimal n ++ w' ++ decimal n' ++ w'' ++ decimal n'' ++ judged_words r ++ end_word
-      three_judged r g p e =
-          e
-          ∙ ap (λ (x : List ℕ). appended x end_word) (p ∙ ap (λ (x : List ℕ). judged x r) three)
-          ∙ judged_line r g (w ++ decimal n ++ w' ++ decimal n' ++ w'' ++ decimal n'') three_short
+-- the steps of a line: each word and number has room behind the text so far
+pub ruleset line_steps = (append_assoc, length-append, append_fits, figure_fits, decimal_length, judged_is, judged_short)
 
 -- a line's text at the front of a list
 module _ (text : List ℕ) (len n : ℕ) (out : List ℕ) (e : length text ≡ 256) (a : n ≡ min len 256) where
@@ -177,3 +123,8 @@ module _ (text : List ℕ) (len n : ℕ) (out : List ℕ) (e : length text ≡ 2
 
   pub short_list : length out < n → out ≡ if_le (length (take len text)) (length out) after out
   short_list h = gt_case _ _ _ _ (let k = text_count in omega arith) refl
+
+-- what the code of `word` asks, and that of `put`
+pub ruleset word_steps = (word_fits, word_left)
+
+pub ruleset put_steps = (put_count, put_list, short_count, short_list)

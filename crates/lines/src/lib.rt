@@ -19,6 +19,7 @@ pub struct Line {
 
 impl Line {
     // A line without text.
+    #[tactic(auto, unfolding(crate::specs::Text::text_of))]
     pub fn empty() -> Line
         ensures { text_of result ≡ [] }
     {
@@ -29,6 +30,7 @@ impl Line {
     }
 
     // The line with a word behind it, if there is room.
+    #[tactic(auto, using(crate::proofs::LineLaws::word_steps), unfolding(crate::specs::Text::text_of))]
     fn word(self, word: &[u8]) -> Line
         ensures { text_of result ≡ appended (text_of self) word.now }
     {
@@ -43,6 +45,7 @@ impl Line {
     }
 
     // The line with a number behind it, if there is room.
+    #[tactic(auto, using(crate::proofs::NumeralLaws::decimal_is))]
     fn number(self, n: u64) -> Line
         ensures { text_of result ≡ appended (text_of self) (decimal n) }
     {
@@ -52,6 +55,7 @@ impl Line {
     }
 
     // The text at the front of a lent list, and its length; nothing, and 0, where the list is shorter. The rest of the list stays.
+    #[tactic(auto, using(crate::proofs::LineLaws::put_steps), unfolding(crate::specs::Text::text_of))]
     pub fn put(self, out: &mut [u8]) -> usize
         ensures value { result ≡ if_le (length (text_of self)) (length out.old) (length (text_of self)) 0 }
         ensures out_after { out.new ≡ if_le (length (text_of self)) (length out.old) (text_of self ++ drop (length (text_of self)) out.old) out.old }
@@ -88,6 +92,7 @@ impl Line {
 }
 
 // study S records R leaks F
+#[tactic(auto, using(crate::proofs::LineLaws::line_steps), unfolding(crate::specs::Text::study_line))]
 pub fn study_line(t: Totals) -> Line
     ensures { text_of result ≡ study_line t }
 {
@@ -99,6 +104,7 @@ pub fn study_line(t: Totals) -> Line
 }
 
 // kind K V
+#[tactic(auto, using(crate::proofs::LineLaws::line_steps), unfolding(crate::specs::Text::kind_line))]
 pub fn kind_line(k: u8, v: u64) -> Line
     ensures { text_of result ≡ kind_line k v }
 {
@@ -109,6 +115,7 @@ pub fn kind_line(k: u8, v: u64) -> Line
 }
 
 // target T sum S margin M, then grade G of a place of people, or domino of listed equipment
+#[tactic(auto, using(crate::proofs::LineLaws::line_steps), unfolding(crate::specs::Text::target_line))]
 pub fn target_line(number: u16, r: TargetReport) -> Line
     ensures { text_of result ≡ target_line number r }
 {
@@ -121,6 +128,7 @@ pub fn target_line(number: u16, r: TargetReport) -> Line
 }
 
 // unjudged U
+#[tactic(auto, using(crate::proofs::LineLaws::line_steps), unfolding(crate::specs::Text::unjudged_line))]
 pub fn unjudged_line(u: u32) -> Line
     ensures { text_of result ≡ unjudged_line u }
 {
@@ -128,6 +136,7 @@ pub fn unjudged_line(u: u32) -> Line
 }
 
 // refused N at P
+#[tactic(auto, using(crate::proofs::LineLaws::line_steps), unfolding(crate::specs::Text::refused_line))]
 pub fn refused_line(n: u8, p: u64) -> Line
     ensures { text_of result ≡ refused_line n p }
 {

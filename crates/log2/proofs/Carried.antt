@@ -12,7 +12,7 @@ use Rattle.thresholds.specs.Thresholds.{thresholds}
 use Rattle.thresholds.proofs.Laws.{right_thresholds}
 use Rattle.log2.specs.Logarithm.{logarithm}
 use Rattle.log2.specs.Tables.{NearStep, NearSteps, LogTables, step_by, near_steps, RightTables}
-use Rattle.log2.proofs.Laws.{log_scaled, Scaled, scaled}
+use Rattle.log2.proofs.Laws.{log_scaled, Scaled, scaled, logarithm_small, leading_few}
 use Rattle.log2.proofs.TableSteps.{near_steps_at, at_near, at_before}
 
 near_at : (l : List ℕ) (b : ℕ) → NearSteps l → b < 512 → NearStep b (get_or l b 0)
@@ -47,3 +47,22 @@ pub log_by_step : (n : ℕ) → 0 < n → n < 2 ^ 32 → step_by thresholds near
 log_by_step n h w =
     let q = scaled n h w in
     sym (step_of thresholds near_steps n (count_leading_zeros 32 n) right_tables q (omega (arith, q.fits)))
+
+-- with g for the near step and x for the threshold there
+module _ (n g x : ℕ) (h : 2 ≤ n) (w : n < 2 ^ 32) where
+  abbrev doubled : ℕ
+  doubled = n * 2 ^ count_leading_zeros 32 n % 2 ^ 32
+
+  module _ (f : g ≡ get_or near_steps (doubled / 2 ^ 22 % 512) 0) (t : x ≡ get_or thresholds g 0) where
+    by_less : (less : ℕ) → less ≡ if_lt doubled x 1 0 → (31 - count_leading_zeros 32 n) * 256 + g - less ≡ logarithm n
+    unfolding step_by
+    by_less less k = let e = (scaled n (omega arith) w).fits in let q = log_by_step n (omega arith) w in cc
+
+    pub log_below : doubled < x → (31 - count_leading_zeros 32 n) * 256 + g - 1 ≡ logarithm n
+    log_below k = by_less 1 (lt_case _ _ _ _ k refl)
+
+    pub log_from : x ≤ doubled → (31 - count_leading_zeros 32 n) * 256 + g - 0 ≡ logarithm n
+    log_from k = by_less 0 (ge_case _ _ _ _ k refl)
+
+-- what the code of `l` asks
+pub ruleset log_steps = (logarithm_small, leading_few, log_below, log_from)

@@ -117,3 +117,6 @@ scaled_few n z h s = go (dec_le z 30)
         let f : n * 2 ^ 31 % 2 ^ 32 ≡ n * 2 ^ 31 = rw e at s.fits in
         let x : ⊥ = omega arith in
         absurd x
+
+pub leading_few : (n : ℕ) → 2 ≤ n → n < 2 ^ 32 → count_leading_zeros 32 n ≤ 30
+leading_few n h w = scaled_few _ _ h (scaled n (omega arith) w)

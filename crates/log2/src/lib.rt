@@ -1,7 +1,7 @@
 // The logarithm to base 2 in steps of a 256th (document 01's L), by the table of thresholds and a table of near steps.
 #![tactic(auto)]
 
-ghost use Rattle.std.specs.Prelude.{◌≡◌, ◌<◌, ◌≤◌, get_or};
+ghost use Rattle.std.specs.Prelude.{◌≡◌, ◌/◌, ◌%◌, ◌≤◌, get_or};
 ghost use Rattle.log2.specs.Logarithm.{logarithm};
 ghost use Rattle.log2.specs.Tables.{near_steps};
 
@@ -35,14 +35,15 @@ static NEAR_STEPS: [u8; 512] = [
     255, 255,
 ];
 
-fn near_step(bits: u32) -> u8
-    requires { bits < 512 }
-    ensures { result ≡ get_or near_steps bits 0 }
+// The near step of a mantissa, by the nine bits below its highest.
+fn near_step(mantissa: u32) -> u8
+    ensures { result ≡ get_or near_steps (mantissa / 4194304 % 512) 0 }
 {
-    NEAR_STEPS[bits as usize]
+    NEAR_STEPS[(mantissa / 4_194_304 % 512) as usize]
 }
 
 // L(n), for every n; L(0) is 0.
+#[tactic(auto, using(crate::proofs::Carried::log_steps))]
 pub fn l(n: u32) -> u32
     ensures value { result ≡ logarithm n }
     ensures within { result ≤ 8191 }
@@ -52,7 +53,7 @@ pub fn l(n: u32) -> u32
     }
     let zeros = u32::leading_zeros(n);
     let mantissa = n << zeros;
-    let near = near_step((mantissa / 4_194_304) % 512) as u32;
+    let near = near_step(mantissa) as u32;
     let least = thresholds::threshold(near);
     let less = if mantissa < least { 1 } else { 0 };
     (31 - zeros) * 256 + near - less

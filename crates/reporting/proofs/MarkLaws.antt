@@ -12,6 +12,7 @@ use Rattle.std.proofs.lemmas.List.Sums.{count_by_more_yes, count_by_more_no}
 use lib.Seq.{drop-cons, set_at}
 use Rattle.model.specs.Sums.{numbers_below}
 use Rattle.model.specs.Calls.{front}
+use Rattle.model.specs.Machine.{mark_of}
 
 module _ (g : ℕ → Bool) where
   pub below_none : numbers_below g 0 ≡ []
@@ -66,13 +67,35 @@ module _ (g : ℕ → Bool) where
     unfolding front
     front_length n h = rw (length-append, length-drop) (omega arith)
 
-    -- there is room for one more
-    pub room : (n t k : ℕ) (e : List ℕ) → k ≡ length (numbers_below g t) → e ≡ front (numbers_below g t) d → length (numbers_below g n) ≤ length d → g t ≡ true → t < n
-        → (k < length d) × (length e ≡ length d)
-    room n t k e p q f h b =
-        let c = count_in t h in
-        let m : length (numbers_below g (t + 1)) ≤ length (numbers_below g n) = count_below (t + 1) n (omega arith) in
-        (omega arith, ap length q ∙ front_length t (omega arith))
+-- below t, the marked targets are counted, and written to the front of a list
+pub record Written (facts : List ℕ) (t count : ℕ) (list start : List ℕ) : Type 0 where
+  pub counted : count ≡ length (numbers_below (λ k. mark_of (get_or facts k 0)) t)
+  pub written : list ≡ front (numbers_below (λ k. mark_of (get_or facts k 0)) t) start
+
+-- where all that are marked below n have room
+module _ (facts start list : List ℕ) (n t count : ℕ) (w : Written facts t count list start) (h : length (numbers_below (λ k. mark_of (get_or facts k 0)) n) ≤ length start) (b : t < n) where
+  abbrev g : ℕ → Bool
+  g k = mark_of (get_or facts k 0)
+
+  module _ (e : mark_of (get_or facts t 0) ≡ true) where
+    in_start : count < length start
+    in_start =
+        let c = count_in g t e in
+        let m : length (numbers_below g (t + 1)) ≤ length (numbers_below g n) = count_below g (t + 1) n (omega arith) in
+        omega (arith, w.counted)
+
+    pub room : count < length list
+    room = let m = count_below g t n (omega arith) in omega (arith, in_start, ap length w.written, front_length g start t (omega arith))
+
+    pub one_in : Written facts (t + 1) (count + 1) (set list count t) start
+    one_in =
+        record {
+          counted = ap (λ (x : ℕ). x + 1) w.counted ∙ sym (count_in g t e);
+          written = ap (λ (x : List ℕ). set x count t) w.written ∙ front_in g start t count w.counted e in_start;
+        }
+
+  pub one_out : mark_of (get_or facts t 0) ≡ false → Written facts (t + 1) count list start
+  one_out e = record { counted = w.counted ∙ sym (count_out g t e); written = w.written ∙ front_out g start t e }
 
 -- the first numbers of a list that pass a test are as many as their places
 module _ (p : ℕ → Bool) (l : List ℕ) where

@@ -27,7 +27,7 @@ fn count_marked(facts: &[u64; 256], n: u16) -> usize
 }
 
 // Their numbers, at the front of the list. The place in the list is counted by hand: a zip with a filter would need the bound of each number in its closure.
-#[tactic(auto, using(crate::proofs::MarkLaws::below_none, crate::proofs::MarkLaws::front_none, crate::proofs::MarkLaws::front_length))]
+#[tactic(auto, using(crate::proofs::MarkLaws::below_none, crate::proofs::MarkLaws::front_none))]
 fn fill_marked(facts: &[u64; 256], n: u16, list: &mut [u16])
     requires n_le_most_targets { n ≤ most_targets }
     requires n_in_bounds { length (numbers_below (λ t. mark_of (get_or facts.now t 0)) n) ≤ length list.old }

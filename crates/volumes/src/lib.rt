@@ -26,6 +26,7 @@ static LEAST_VOLUMES: [u32; 343] = [
 ];
 
 // K of a volume in m³, for every volume: 0 for 0, and that of 10,000 above it.
+#[tactic(auto, using(crate::proofs::Laws::root_zero))]
 pub fn root(volume: u32) -> u32
     ensures value { result ≡ root_of volume }
     ensures within { result ≤ 1342 }

@@ -7,5 +7,7 @@ use Rattle.ignition.proofs.column_of.Goals as goal
 
 pub returns : goal.returns
 returns c =
-    let point = IsPartitionPoint-from_clause (λ y. ltb y c.args.rate) rates c.partition_point.result c.partition_point.ensures.partitioned (rates_parted c.args.rate) (λ a r q k. search rules) in
-    (c.min.ensures ∙ column_by_count c.args.rate c.partition_point.result c.partition_point.ensures.bound point, omega (arith, c.min.ensures))
+    let p = c.partition_point in
+    let e = column_by_count c.args.rate p.result p.ensures.bound
+    (IsPartitionPoint-from_clause (λ y. ltb y c.args.rate) rates p.result p.ensures.partitioned (rates_parted c.args.rate) (λ a r q k. search rules)) in
+    (c.min.ensures ∙ e, omega (arith, c.min.ensures))

@@ -1,14 +1,10 @@
--- `reporting::domino::fill_marked` meets its contract: after t targets the marked ones below t are at the front of the list. Assumes nothing.
-use mathlib.Core.Path.{◌≡◌}
+-- After t targets the marked ones below t are at the front of the list. Assumes nothing.
 use Prim.Native.Nat.{◌-◌, ◌≤◌}
-use lib.ListN.{length, get_or}
-use Rattle.model.specs.Sums.{numbers_below}
-use Rattle.model.specs.Calls.{front}
-use Rattle.model.specs.Machine.{mark_of}
+use Rattle.reporting.proofs.MarkLaws.{Written}
 use Rattle.reporting.proofs.domino.fill_marked.Given as goal
 
 abbrev pub invariant-loop-t : goal.invariant-loop-t
-invariant-loop-t l = (l.t ≤ l.n) × (l.count ≡ length (numbers_below (λ k. mark_of (get_or l.facts k 0)) l.t)) × (l.list ≡ front (numbers_below (λ k. mark_of (get_or l.facts k 0)) l.t) l.initial.list)
+invariant-loop-t l = (l.t ≤ l.n) × Written l.facts l.t l.count l.list l.initial.list
 
 abbrev pub decreases-loop-t : goal.decreases-loop-t
 decreases-loop-t l = l.n - l.t
