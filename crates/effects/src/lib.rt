@@ -14,7 +14,7 @@ ghost use Rattle.effects.specs.Effects.{figures, offset, after_effects, taken_of
 ghost use Rattle.effects.specs.Timings.{timing_of, with_unit, alike_of};
 ghost use Rattle.effects.specs.Steps.{Added, Taking, next_in};
 
-use state::{Branch, MOST_TARGETS, record};
+use state::{Branch, MOST_TARGETS, Rows, record};
 use terms::{Clock, class, outcome, unit};
 
 // How many effects were taken and how many bytes they have, the least target that the next one may name, and the effects of the study so far that no
@@ -428,7 +428,7 @@ fn unjudged_after(before: u32, missed: u64) -> u32
 }
 
 // Takes the effects that the bytes begin with, in an outcome's branch, up to the first that is unsound or timed otherwise than the first.
-pub fn take_effects(
+fn take_run(
     b: Branch,
     targets: u16,
     most: u32,
@@ -473,4 +473,28 @@ pub fn take_effects(
         next: next,
         unjudged: unjudged_after(before, missed),
     }
+}
+
+// Takes the effects that the bytes begin with, in an outcome's branch, up to the first that is unsound or timed otherwise than the first.
+pub fn take_effects(
+    b: Branch,
+    targets: u16,
+    most: u32,
+    before: u32,
+    bytes: &[u8],
+    rows: &mut Rows,
+) -> Taken
+    ensures count_value { (result.count ≡ taken_of (effect_on (timing_of bytes.now).clock) (timing_of bytes.now).kind (timing_of bytes.now).length targets b (figures b.next before rows.old.sums rows.old.margins rows.old.facts) bytes.now (alike_of bytes.now (min most ((length bytes.now - 6) / 10)))) × (result.at ≡ offset (timing_of bytes.now).length result.count) }
+    ensures facts_after { figures result.next result.unjudged rows.new.sums rows.new.margins rows.new.facts ≡ after_effects (effect_on (timing_of bytes.now).clock) b (figures b.next before rows.old.sums rows.old.margins rows.old.facts) (timing_of bytes.now).length bytes.now result.count }
+{
+    take_run(
+        b,
+        targets,
+        most,
+        before,
+        bytes,
+        &mut rows.sums,
+        &mut rows.margins,
+        &mut rows.facts,
+    )
 }

@@ -1,4 +1,4 @@
--- `effects::take_effects` meets its contract: each turn takes an effect more. Assumes nothing.
+-- `effects::take_run` meets its contract: each turn takes an effect more. Assumes nothing.
 use mathlib.Core.Path.{◌≡◌}
 use mathlib.Core.Bool.{Bool, true}
 use mathlib.Core.List.{List}
@@ -9,7 +9,7 @@ use Rattle.state.specs.declared.Branch.{Branch}
 use Rattle.model.specs.Machine.{up_to, most32}
 use Rattle.vulnerability.specs.Effect.{effect_on}
 use Rattle.effects.specs.Effects.{Figures, figures, offset, after_effects, sound}
-use Rattle.effects.proofs.take_effects.Given as goal
+use Rattle.effects.proofs.take_run.Given as goal
 
 -- whether the effect of a number is sound
 abbrev pub sound_at : Clock → ℕ → ℕ → ℕ → Branch → Figures → List ℕ → ℕ → Bool

@@ -1,4 +1,4 @@
--- `effects::take_effects` meets its contract: each turn takes an effect more. Assumes nothing.
+-- `effects::take_run` meets its contract: each turn takes an effect more. Assumes nothing.
 use mathlib.Core.Path.{◌≡◌, refl, sym, ◌∙◌, ap}
 use mathlib.Core.Bool.{Bool, true, false}
 use mathlib.Core.List.{List}
@@ -15,8 +15,8 @@ use Rattle.effects.specs.Timings.{timing_of, alike_of}
 use Rattle.effects.proofs.Laws.{window, effects_none, effects_next, offset_none, offset_more, offset_most, step_sound, step_unsound, step_parts, step_left, sound_at_lem, more_missed}
 use Rattle.effects.proofs.LeadingLaws.{passes_more, leading_only}
 use Rattle.effects.proofs.TimingLaws.{length_most, alike_most, top_most}
-use Rattle.effects.proofs.take_effects.Invariants.{sound_at}
-use Rattle.effects.proofs.take_effects.Goals as goal
+use Rattle.effects.proofs.take_run.Invariants.{sound_at}
+use Rattle.effects.proofs.take_run.Goals as goal
 
 pub loop-count-init : goal.loop-count-init
 loop-count-init c =
