@@ -15,7 +15,7 @@ use Rattle.state.specs.Refusals.{number_of, refusal_in}
 use Rattle.model.specs.Bounds.{most_records}
 use Rattle.model.specs.Format.{Record}
 use Rattle.model.specs.Faults.{role, order_fault, own_fault, fault}
-use Rattle.model.specs.Machine.{State, state, context_in, fault_in, refused_with, with_reading, accepted, record_read}
+use Rattle.model.specs.Machine.{State, context_in, fault_in, refused_with, with_reading, accepted, record_read}
 use Rattle.model.proofs.Follows.{trees_length}
 use Rattle.faults.proofs.Laws.{number_nonzero}
 use Rattle.study.specs.Placing.{place_fault}
