@@ -38,13 +38,14 @@ pub fn enter_byte(c: Core, b: u8, p: &mut [u8; 16]) -> Entered
             whole: false,
         };
     }
-    put_pending(p, h.have, b);
     if h.have == 0 {
+        put_pending(p, 0, b);
         return Entered {
             core: core_reading(c, begin(h, b)),
             whole: false,
         };
     }
+    put_pending(p, h.have, b);
     let grown = grow(h);
     Entered {
         core: core_reading(c, grown),

@@ -42,7 +42,7 @@ pub fn grow(h: Reading) -> Reading
 {
     Reading {
         phase: phase::OPEN,
-        have: h.have.saturating_add(1).min(15),
+        have: if h.have < 15 { h.have + 1 } else { 15 },
         place: h.place.saturating_add(1),
         number: 0,
         at: 0,

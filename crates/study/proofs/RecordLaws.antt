@@ -1,19 +1,36 @@
 -- What a record does to a study: refused for its place, refused for a fault of its own, or taken. Assumes nothing.
-use mathlib.Core.Path.{◌≡◌, refl, sym, ◌∙◌}
+use mathlib.Core.Path.{◌≡◌, refl, sym, ◌∙◌, ap}
 use mathlib.Core.Bool.{Bool, true, false}
+use mathlib.Core.Logic.{◌⊎◌, inl, inr, ⊎_elim}
 use mathlib.Core.List.{List}
 use Prim.Native.Nat.{ℕ}
 use native.Mathlib.Omega.{arith}
 use lib.Dec.{eqb, leb}
 use Rattle.numeric.specs.Choice.{pick, if_eq, if_le}
-use Rattle.numeric.proofs.ChoiceLaws.{eq_case, ne_case}
+use Rattle.numeric.proofs.ChoiceLaws.{eq_case, ne_case, eq_both, lt_both}
+use Rattle.std.specs.Prelude.{Result, Ok, Err, IsErrAnd}
 use Rattle.state.specs.declared.Core.{Core}
+use Rattle.state.specs.declared.refusal.Refusal.{Refusal}
+use Rattle.state.specs.Refusals.{number_of, refusal_in}
 use Rattle.model.specs.Bounds.{most_records}
 use Rattle.model.specs.Format.{Record}
 use Rattle.model.specs.Faults.{role, order_fault, own_fault, fault}
 use Rattle.model.specs.Machine.{State, context_in, fault_in, refused_with, with_reading, accepted, record_read}
 use Rattle.model.proofs.Follows.{trees_length}
+use Rattle.faults.proofs.Laws.{number_nonzero}
 use Rattle.study.specs.Placing.{place_fault}
+
+-- a record's place in the order has no other number
+module _ (records left trees scenarios k : ℕ) where
+  two_or_none : (order_fault records left trees scenarios k ≡ 0) ⊎ (order_fault records left trees scenarios k ≡ 2)
+  unfolding order_fault
+  two_or_none =
+      let P : ℕ → Type 0 = λ n. (n ≡ 0) ⊎ (n ≡ 2) in
+      let one = λ (m n : ℕ). eq_both P m n 0 2 (inl refl) (inr refl) in
+      eq_both P _ _ _ _ (one _ _) (lt_both P _ _ _ _ (one _ _) (lt_both P _ _ _ _ (eq_both P _ _ _ _ (inl refl) (one _ _)) (eq_both P _ _ _ _ (one _ _) (eq_both P _ _ _ _ (inl refl) (one _ _)))))
+
+  pub order_fault_two : (order_fault records left trees scenarios k ≡ 0 → ⊥) → order_fault records left trees scenarios k ≡ 2
+  order_fault_two h = ⊎_elim (λ e. absurd (h e)) (λ e. e) two_or_none
 
 -- the fault of a record of own fault n, by whether the order allows it and whether there are too many: one by its place comes first
 abbrev placing : Bool → Bool → ℕ → ℕ
@@ -61,3 +78,21 @@ module _ (s : State) (r : Record) {x : State} where
   pub without_fault : (m n : ℕ) → m ≡ place_fault s.core (role r) → m ≡ 0 → n ≡ own_fault (context_in s.core s.stack) r → n ≡ 0 → x ≡ accepted s r → x ≡ record_read s r
   unfolding record_read
   without_fault m n p z e y q = eq_case _ _ _ _ (fault_of_own s.core s.stack r (sym p ∙ z) ∙ sym e ∙ y) q
+
+-- A record's first fault: by its place, or of its own.
+module _ (c : Core) (k : List ℕ) (r : Record) where
+  pub fault_by_place : (y : Result Unit Refusal) (w : Refusal) → IsErrAnd y (λ e. e ≡ w) → number_of w ≡ place_fault c (role r) → refusal_in y ≡ fault_in c k r
+  fault_by_place (Ok d) w h e = absurd h
+  fault_by_place (Err v) w h e = ap number_of h ∙ e ∙ sym (fault_of_place c k r (λ z. number_nonzero w (e ∙ z)))
+
+  pub fault_by_own : (n : ℕ) → 0 ≡ place_fault c (role r) → n ≡ own_fault (context_in c k) r → n ≡ fault_in c k r
+  fault_by_own n p e = e ∙ sym (fault_of_own c k r (sym p))
+
+-- A record is refused with its fault, or taken without one.
+module _ (s : State) (r : Record) {x : State} where
+  pub refused_for : (w : Refusal) → number_of w ≡ fault_in s.core s.stack r → x ≡ with_reading s (refused_with s.core.reading (number_of w)) → x ≡ record_read s r
+  refused_for w e q = with_fault s r (number_of w) (sym e) (number_nonzero w) q
+
+  pub taken_for : 0 ≡ fault_in s.core s.stack r → x ≡ accepted s r → x ≡ record_read s r
+  unfolding record_read
+  taken_for e q = eq_case _ _ _ _ (sym e) q

@@ -4,10 +4,14 @@ use Rattle.model.specs.Machine.{State, state}
 use Rattle.study.specs.declared.Study.{Study}
 
 abbrev pub view : Study → State
-view s = state s.core s.pending s.stack s.sums s.margins s.facts
+view s = state s.core s.pending s.tables.stack s.tables.rows.sums s.tables.rows.margins s.tables.rows.facts
 
 abbrev pub unview : State → Study
-unview s = record { core = s.core; pending = s.pending; stack = s.stack; sums = s.sums; margins = s.margins; facts = s.facts }
+unview s = record {
+  core = s.core;
+  pending = s.pending;
+  tables = record { stack = s.stack; rows = record { sums = s.sums; margins = s.margins; facts = s.facts } };
+}
 
 -- what is said of a study's view is said of the whole study
 abbrev pub ViewIsWhole : Type 0

@@ -1,156 +1,144 @@
-// The fault of a record where a study's bounds are compared (document 01, "Numbers the desk says no with"); 0 is none.
-ghost use Rattle.std.specs.Prelude.{◌≡◌, ltb};
+// The fault of a record where a study's bounds are compared (document 01, "Numbers the desk says no with"): `Ok` where it has none.
+ghost use Rattle.std.specs.Prelude.{◌≡◌, List, ℕ};
+ghost use Rattle.numeric.specs.Choice.{if_lt};
+ghost use Rattle.state.specs.Refusals.{refusal_in};
 ghost use Rattle.model.specs.Bounds.{most_above};
-ghost use Rattle.model.specs.Content.{given, on_curve};
+ghost use Rattle.model.specs.Content.{given, on_curve, described};
+ghost use Rattle.model.specs.Format.{target_rec, leak_rec, branching_rec, outcome_rec, closing_rec};
 ghost use Rattle.model.specs.Faults.{target_fault, leak_fault, chance_fault, branching_fault, outcome_fault};
 ghost use Rattle.model.specs.Verdict.{field, facts_at};
-ghost use Rattle.model.specs.Machine.{top, above_of};
-ghost use Rattle.state.specs.Refusals.{refusal_in};
+ghost use Rattle.model.specs.Machine.{top, above_of, fault_in};
 ghost use Rattle.study.specs.Placing.{place_fault};
 
 use crate::Study;
-use state::{Core, Refusal};
+use faults::check;
+use state::{Core, Refusal, record};
 use terms::{Target, class, outcome, setting};
 
-// The number that a result says no with; 0 where it says yes.
-pub(crate) fn number_in(fault: Result<(), Refusal>) -> u8
-    ensures { result ≡ refusal_in fault }
-{
-    match fault {
-        Ok(()) => 0,
-        Err(why) => why.number(),
-    }
-}
-
-// 5: one record too many, after 2.
-pub(crate) fn place_fault(c: Core, role: u8) -> u8
-    ensures { result ≡ place_fault c role }
+// A record that the order doesn't allow here, or one record too many.
+#[tactic(auto, using(crate::proofs::RecordLaws::order_fault_two), unfolding(crate::specs::Placing::place_fault, numeric::specs::Choice::if_eq, numeric::specs::Choice::if_le))]
+pub(crate) fn place_fault(c: Core, role: u8) -> Result<(), Refusal>
+    ensures { refusal_in result ≡ place_fault c role }
 {
     let k = c.counts;
     let b = c.branch;
-    if faults::order_fault(k.records, b.left, b.height, k.scenarios, role).is_ok() {
-        if Study::MOST_RECORDS <= k.records {
-            return 5;
-        }
-        return 0;
-    }
-    2
+    faults::order_fault(k.records, b.left, b.height, k.scenarios, role)?;
+    check(k.records < Study::MOST_RECORDS, Refusal::TooMany)
 }
 
-fn target_fault(targets: u16, number: u16, f: Target) -> u8
-    ensures { result ≡ target_fault targets number f }
+#[tactic(auto, unfolding(model::specs::Faults::target_fault, numeric::specs::Choice::if_eq, numeric::specs::Choice::if_le, numeric::specs::Choice::if_lt))]
+fn target_fault(targets: u16, number: u16, f: Target) -> Result<(), Refusal>
+    ensures { refusal_in result ≡ target_fault targets number f }
 {
-    if Study::MOST_TARGETS <= targets {
-        return 5;
-    }
-    if Study::MOST_CLASS < f.class {
-        return 3;
-    }
-    if Study::MOST_SETTING < f.setting {
-        return 3;
-    }
-    if Study::MOST_VOLUME < f.volume {
-        return 3;
-    }
-    if f.class == class::PEOPLE {
-        return number_in(faults::number_fault(number, targets));
-    }
-    if f.setting == setting::INDIVIDUAL {
-        return number_in(faults::number_fault(number, targets));
-    }
-    3
+    check(targets < Study::MOST_TARGETS, Refusal::TooMany)?;
+    let known = f.class <= Study::MOST_CLASS && f.setting <= Study::MOST_SETTING;
+    let fits = known
+        && f.volume <= Study::MOST_VOLUME
+        && (f.class == class::PEOPLE || f.setting == setting::INDIVIDUAL);
+    check(fits, Refusal::Field)?;
+    faults::number_fault(number, targets)
 }
 
-pub(crate) fn leak_fault(scenarios: u32, last: u32, number: u32, frequency: u64) -> u8
-    ensures { result ≡ leak_fault scenarios last number frequency }
+#[tactic(auto, unfolding(model::specs::Faults::leak_fault, numeric::specs::Choice::if_eq, numeric::specs::Choice::if_le, numeric::specs::Choice::if_lt))]
+fn leak_fault(scenarios: u32, last: u32, number: u32, frequency: u64) -> Result<(), Refusal>
+    ensures { refusal_in result ≡ leak_fault scenarios last number frequency }
 {
-    if Study::MOST_SCENARIOS <= scenarios {
-        return 5;
-    }
-    if frequency < Study::LEAST_FREQUENCY {
-        return 3;
-    }
-    if Study::MOST_FREQUENCY < frequency {
-        return 3;
-    }
-    if scenarios == 0 {
-        return 0;
-    }
-    if last < number {
-        return 0;
-    }
-    4
+    check(scenarios < Study::MOST_SCENARIOS, Refusal::TooMany)?;
+    check(
+        Study::LEAST_FREQUENCY <= frequency && frequency <= Study::MOST_FREQUENCY,
+        Refusal::Field,
+    )?;
+    check(scenarios == 0 || last < number, Refusal::Numbering)
 }
 
-pub(crate) fn outcome_fault(kind: u8, effects: u16) -> u8
-    ensures { result ≡ outcome_fault kind effects }
+#[tactic(auto, unfolding(model::specs::Faults::outcome_fault, numeric::specs::Choice::if_eq, numeric::specs::Choice::if_lt))]
+fn outcome_fault(kind: u8, effects: u16) -> Result<(), Refusal>
+    ensures { refusal_in result ≡ outcome_fault kind effects }
 {
-    if Study::MOST_KIND < kind {
-        return 3;
-    }
-    if Study::MOST_EFFECTS < effects {
-        return 3;
-    }
-    if kind == outcome::NO_EFFECT {
-        if effects == 0 {
-            return 0;
-        }
-        return 3;
-    }
-    0
+    let fits = kind <= Study::MOST_KIND
+        && effects <= Study::MOST_EFFECTS
+        && (kind != outcome::NO_EFFECT || effects == 0);
+    check(fits, Refusal::Field)
 }
 
-// Whether a branching here has too many above it.
-fn too_deep(c: Core, stack: &[u64; 9]) -> bool
-    ensures { result ≡ ltb most_above (above_of (top stack.now c.branch.height)) }
+// A branching here with too many above it.
+#[tactic(auto, unfolding(numeric::specs::Choice::if_lt))]
+fn depth_fault(c: Core, stack: &[u64; 9]) -> Result<(), Refusal>
+    ensures { refusal_in result ≡ if_lt most_above (above_of (top stack.now c.branch.height)) 5 0 }
 {
-    let b = c.branch;
-    let tree = trees::next_tree(stack, b.height);
-    Study::MOST_ABOVE < (tree % 16) as u8
+    let above = (trees::next_tree(stack, c.branch.height) % 16) as u8;
+    check(above <= Study::MOST_ABOVE, Refusal::TooMany)
 }
 
-fn curve_fault(curve: u8, rate: u32) -> u8
-    ensures { result ≡ chance_fault (on_curve curve rate) }
+#[tactic(auto, unfolding(model::specs::Faults::chance_fault, numeric::specs::Choice::if_eq, numeric::specs::Choice::if_lt))]
+fn curve_fault(curve: u8, rate: u32) -> Result<(), Refusal>
+    ensures { refusal_in result ≡ chance_fault (on_curve curve rate) }
 {
-    if curve == 0 {
-        return 3;
-    }
-    if Study::MOST_CURVE < curve {
-        return 3;
-    }
-    if rate == 0 {
-        return 3;
-    }
-    0
+    check(
+        0 < curve && curve <= Study::MOST_CURVE && rate != 0,
+        Refusal::Field,
+    )
 }
 
-// The faults of a branching, of one by a curve and of a target but for their place.
-pub(crate) fn own_branching(c: Core, chance: u32, stack: &[u64; 9]) -> u8
-    ensures { result ≡ branching_fault (above_of (top stack.now c.branch.height)) (given chance) }
+#[tactic(auto, unfolding(model::specs::Faults::branching_fault, model::specs::Faults::chance_fault, numeric::specs::Choice::if_lt))]
+fn own_branching(c: Core, chance: u32, stack: &[u64; 9]) -> Result<(), Refusal>
+    ensures { refusal_in result ≡ branching_fault (above_of (top stack.now c.branch.height)) (given chance) }
 {
-    if too_deep(c, stack) {
-        return 5;
-    }
-    if Study::MOST_CHANCE < chance {
-        return 3;
-    }
-    0
+    depth_fault(c, stack)?;
+    check(chance <= Study::MOST_CHANCE, Refusal::Field)
 }
 
-pub(crate) fn own_curve(c: Core, curve: u8, rate: u32, stack: &[u64; 9]) -> u8
-    ensures { result ≡ branching_fault (above_of (top stack.now c.branch.height)) (on_curve curve rate) }
+#[tactic(auto, unfolding(model::specs::Faults::branching_fault, numeric::specs::Choice::if_lt))]
+fn own_curve(c: Core, curve: u8, rate: u32, stack: &[u64; 9]) -> Result<(), Refusal>
+    ensures { refusal_in result ≡ branching_fault (above_of (top stack.now c.branch.height)) (on_curve curve rate) }
 {
-    if too_deep(c, stack) {
-        return 5;
-    }
+    depth_fault(c, stack)?;
     curve_fault(curve, rate)
 }
 
-pub(crate) fn own_target(c: Core, p: &[u8]) -> u8
-    ensures { result ≡ target_fault c.counts.targets (field p.now 1 2) (facts_at p.now) }
+// Below, the first fault of a record of each kind.
+pub(crate) fn check_target(c: Core, p: &[u8]) -> Result<(), Refusal>
+    ensures { (k : List ℕ) → refusal_in result ≡ fault_in c k (target_rec (field p.now 1 2) (described (facts_at p.now))) }
 {
-    let number = decoding::half_at(p, 1);
-    let f = decoding::facts(p);
-    let k = c.counts;
-    target_fault(k.targets, number, f)
+    place_fault(c, record::TARGET)?;
+    target_fault(
+        c.counts.targets,
+        decoding::half_at(p, 1),
+        decoding::facts(p),
+    )
+}
+
+pub(crate) fn check_leak(c: Core, number: u32, frequency: u64) -> Result<(), Refusal>
+    ensures { (k : List ℕ) → refusal_in result ≡ fault_in c k (leak_rec number frequency) }
+{
+    place_fault(c, record::LEAK)?;
+    leak_fault(c.counts.scenarios, c.counts.last, number, frequency)
+}
+
+pub(crate) fn check_branching(c: Core, chance: u32, stack: &[u64; 9]) -> Result<(), Refusal>
+    ensures { refusal_in result ≡ fault_in c stack.now (branching_rec (given chance)) }
+{
+    place_fault(c, record::BRANCHING)?;
+    own_branching(c, chance, stack)
+}
+
+pub(crate) fn check_curve(c: Core, curve: u8, rate: u32, stack: &[u64; 9]) -> Result<(), Refusal>
+    ensures { refusal_in result ≡ fault_in c stack.now (branching_rec (on_curve curve rate)) }
+{
+    place_fault(c, record::BRANCHING)?;
+    own_curve(c, curve, rate, stack)
+}
+
+pub(crate) fn check_outcome(c: Core, kind: u8, effects: u16) -> Result<(), Refusal>
+    ensures { (k : List ℕ) → refusal_in result ≡ fault_in c k (outcome_rec kind effects) }
+{
+    place_fault(c, record::OUTCOME)?;
+    outcome_fault(kind, effects)
+}
+
+pub(crate) fn check_closing(c: Core, p: &[u8]) -> Result<(), Refusal>
+    ensures { (k : List ℕ) → refusal_in result ≡ fault_in c k (closing_rec (field p.now 1 4) (field p.now 5 8)) }
+{
+    place_fault(c, record::CLOSING)?;
+    faults::own_closing(c, p)
 }

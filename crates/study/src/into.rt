@@ -3,10 +3,11 @@
 ghost use Rattle.std.specs.Prelude.{◌≡◌, length};
 ghost use Rattle.model.specs.Machine.{state, read_all, number_after, place_after};
 
+use crate::tables::Tables;
 use crate::whole::read_on;
 use state::Core;
 
-// The answer to a piece: its number and its place.
+// The answer to a piece: its number and its place. A number, not an enum: C reads it.
 #[repr(C)]
 #[derive(Clone, Copy)]
 pub struct Answer {
@@ -23,55 +24,40 @@ pub struct Fed {
 
 // Reads all bytes: the parts that go by value afterwards, and the arrays in place. The totals of the kinds stand in an array of their own in the loop,
 // and are put back at the end.
-pub(crate) fn read_into(
-    c: Core,
-    bytes: &[u8],
-    pending: &mut [u8; 16],
-    stack: &mut [u64; 9],
-    sums: &mut [u64; 256],
-    margins: &mut [u32; 256],
-    facts: &mut [u64; 256],
-) -> Core
+pub(crate) fn read_into(c: Core, bytes: &[u8], pending: &mut [u8; 16], tables: &mut Tables) -> Core
     requires { length pending.old ≡ 16 }
-    ensures { state result pending.new stack.new sums.new margins.new facts.new ≡ read_all (state c pending.old stack.old sums.old margins.old facts.old) bytes.now }
+    ensures { state result pending.new tables.new.stack tables.new.rows.sums tables.new.rows.margins tables.new.rows.facts ≡ read_all (state c pending.old tables.old.stack tables.old.rows.sums tables.old.rows.margins tables.old.rows.facts) bytes.now }
 {
     let mut core = c;
     let mut kinds = counting::kinds_of(core.tally);
     let mut i = 0;
     while i < bytes.len() {
-        let run = read_on(
-            core, bytes, i, pending, stack, sums, margins, facts, &mut kinds,
-        );
+        let run = read_on(core, bytes, i, pending, tables, &mut kinds);
         core = run.core;
         i = run.at;
     }
     counting::with_kinds(core, &kinds)
 }
 
-// The same, with the answer to the piece. All arrays are lent for one lifetime, as the fields of one study are.
+// The same, with the answer to the piece. The arrays are lent for one lifetime, as the fields of one study are.
 pub(crate) fn feed_into<'a, 'b>(
     c: Core,
     bytes: &'a [u8],
     pending: &'b mut [u8; 16],
-    stack: &'b mut [u64; 9],
-    sums: &'b mut [u64; 256],
-    margins: &'b mut [u32; 256],
-    facts: &'b mut [u64; 256],
+    tables: &'b mut Tables,
 ) -> Fed
     requires { length pending.old ≡ 16 }
-    ensures { (state result.core pending.new stack.new sums.new margins.new facts.new ≡ read_all (state c pending.old stack.old sums.old margins.old facts.old) bytes.now)
+    ensures { (state result.core pending.new tables.new.stack tables.new.rows.sums tables.new.rows.margins tables.new.rows.facts ≡ read_all (state c pending.old tables.old.stack tables.old.rows.sums tables.old.rows.margins tables.old.rows.facts) bytes.now)
         × (result.answer.number ≡ number_after c.reading.place (length bytes.now) result.core.reading) × (result.answer.place ≡ place_after result.core.reading) }
 {
     let before = c.reading.place;
-    let core = read_into(c, bytes, pending, stack, sums, margins, facts);
+    let core = read_into(c, bytes, pending, tables);
     let h = core.reading;
-    let number = reading::piece_number(before, bytes.len() as u64, h);
-    let place = reading::piece_place(h);
     Fed {
-        core: core,
+        core,
         answer: Answer {
-            number: number,
-            place: place,
+            number: reading::piece_number(before, bytes.len() as u64, h),
+            place: reading::piece_place(h),
         },
     }
 }

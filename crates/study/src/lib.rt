@@ -8,6 +8,7 @@ mod pieces;
 mod records;
 mod reports;
 mod scenarios;
+mod tables;
 mod whole;
 
 ghost use Rattle.std.specs.Prelude.{◌≡◌};
@@ -16,7 +17,8 @@ ghost use Rattle.study.specs.View.{view};
 
 pub use into::Answer;
 pub use pieces::Taken;
-use state::{Branch, Core, Counts, Reading, Tally, phase};
+use state::{Core, Rows};
+use tables::Tables;
 use terms::{class, outcome, setting};
 
 // A study being read, by value. No field is public: only a report shows a figure, and none before the end.
@@ -26,12 +28,7 @@ pub struct Study {
     core: Core,
     // the bytes of the record that has begun
     pending: [u8; 16],
-    // the trees still to come, each with its frequency and the branchings above it
-    stack: [u64; 9],
-    // for each target its sum, its margin, and its facts with its mark on the domino list
-    sums: [u64; 256],
-    margins: [u32; 256],
-    facts: [u64; 256],
+    tables: Tables,
 }
 
 // The bounds of a study.
@@ -64,51 +61,21 @@ impl Study {
     pub const MOST_SETTING: u8 = setting::INDOORS;
 
     // A study of which nothing is read yet.
+    #[tactic(auto, unfolding(model::specs::Machine::fresh))]
     pub fn fresh() -> Study
         ensures { view result ≡ fresh }
     {
         Study {
-            core: Core {
-                reading: Reading {
-                    phase: phase::OPEN,
-                    have: 0,
-                    place: 0,
-                    start: 0,
-                    number: 0,
-                    at: 0,
-                },
-                counts: Counts {
-                    records: 0,
-                    targets: 0,
-                    scenarios: 0,
-                    last: 0,
-                    leaks: 0,
-                },
-                branch: Branch {
-                    height: 0,
-                    left: 0,
-                    next: 0,
-                    leak: 0,
-                    kind: 0,
-                    frequency: 0,
-                    above: 0,
-                },
-                tally: Tally {
-                    study: 0,
-                    kind0: 0,
-                    kind1: 0,
-                    kind2: 0,
-                    kind3: 0,
-                    kind4: 0,
-                    kind5: 0,
-                    unjudged: 0,
+            core: Core::default(),
+            pending: [0; 16],
+            tables: Tables {
+                stack: [0; 9],
+                rows: Rows {
+                    sums: [0; 256],
+                    margins: [0; 256],
+                    facts: [0; 256],
                 },
             },
-            pending: [0; 16],
-            stack: [0; 9],
-            sums: [0; 256],
-            margins: [0; 256],
-            facts: [0; 256],
         }
     }
 }

@@ -5,7 +5,7 @@ ghost use Rattle.study.specs.Runs.{Called};
 use crate::Study;
 use crate::into::{Answer, feed_into};
 
-// A piece is read: the study after it, with the number and the place of the answer.
+// A piece is read: the study after it, with the number and the place of the answer, which the contract of `piece` speaks of.
 #[derive(Clone, Copy)]
 pub struct Taken {
     pub study: Study,
@@ -20,32 +20,17 @@ impl Study {
     {
         let core = self.core;
         let mut pending = self.pending;
-        let mut stack = self.stack;
-        let mut sums = self.sums;
-        let mut margins = self.margins;
-        let mut facts = self.facts;
-        let fed = feed_into(
-            core,
-            bytes,
-            &mut pending,
-            &mut stack,
-            &mut sums,
-            &mut margins,
-            &mut facts,
-        );
+        let mut tables = self.tables;
+        let fed = feed_into(core, bytes, &mut pending, &mut tables);
         let after = fed.core;
-        let answer = fed.answer;
         Taken {
             study: Study {
                 core: after,
-                pending: pending,
-                stack: stack,
-                sums: sums,
-                margins: margins,
-                facts: facts,
+                pending,
+                tables,
             },
-            number: answer.number,
-            place: answer.place,
+            number: fed.answer.number,
+            place: fed.answer.place,
         }
     }
 
@@ -53,15 +38,7 @@ impl Study {
     pub fn feed(&mut self, bytes: &[u8]) -> Answer
         ensures { Called self.old (piece bytes.now) (took_piece result.number result.place) self.new }
     {
-        let fed = feed_into(
-            self.core,
-            bytes,
-            &mut self.pending,
-            &mut self.stack,
-            &mut self.sums,
-            &mut self.margins,
-            &mut self.facts,
-        );
+        let fed = feed_into(self.core, bytes, &mut self.pending, &mut self.tables);
         self.core = fed.core;
         fed.answer
     }

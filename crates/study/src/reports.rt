@@ -29,9 +29,9 @@ impl Study {
             if t < least(k.targets, Self::MOST_TARGETS) {
                 let i = t as usize;
                 let row = Row {
-                    sum: self.sums[i],
-                    margin: self.margins[i],
-                    facts: self.facts[i],
+                    sum: self.tables.rows.sums[i],
+                    margin: self.tables.rows.margins[i],
+                    facts: self.tables.rows.facts[i],
                 };
                 return reporting::report_row(h.place, row);
             }
@@ -45,7 +45,7 @@ impl Study {
         ensures { Called self (domino list.old) (gave_domino result list.new) self }
     {
         let core = self.core;
-        let facts = self.facts;
+        let facts = self.tables.rows.facts;
         reporting::report_domino(core, &facts, list)
     }
 }

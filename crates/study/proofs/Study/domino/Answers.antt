@@ -6,4 +6,4 @@ pub returns : goal.returns
 returns c =
     let s = c.args.self in
     let e = c.report_domino.ensures in
-    domino_called (e.value s.pending s.stack s.sums s.margins) (e.list_after s.pending s.stack s.sums s.margins)
+    domino_called (e.value s.pending s.tables.stack s.tables.rows.sums s.tables.rows.margins) (e.list_after s.pending s.tables.stack s.tables.rows.sums s.tables.rows.margins)

@@ -33,4 +33,4 @@ pub returns : goal.returns
 returns c =
     let v = c.loop-i in
     let e = read_whole _ _ c.args.bytes.now v.i v.invariant.2 c.loop-i-test.false in
-    ap (λ (x : Core). state x v.pending v.stack v.sums v.margins v.facts) c.with_kinds.ensures ∙ e
+    ap (λ (x : Core). state x v.pending v.tables.stack v.tables.rows.sums v.tables.rows.margins v.tables.rows.facts) c.with_kinds.ensures ∙ e

@@ -8,7 +8,7 @@ use Rattle.study.proofs.into.read_into.Given as goal
 
 abbrev pub invariant-loop-i : goal.invariant-loop-i
 invariant-loop-i l = (l.i ≤ length l.bytes) × (length l.pending ≡ 16)
-    × (state (with_kinds l.core l.kinds) l.pending l.stack l.sums l.margins l.facts ≡ read_all (state l.initial.core l.initial.pending l.initial.stack l.initial.sums l.initial.margins l.initial.facts) (take l.i l.bytes))
+    × (state (with_kinds l.core l.kinds) l.pending l.tables.stack l.tables.rows.sums l.tables.rows.margins l.tables.rows.facts ≡ read_all (state l.initial.core l.initial.pending l.initial.tables.stack l.initial.tables.rows.sums l.initial.tables.rows.margins l.initial.tables.rows.facts) (take l.i l.bytes))
 
 abbrev pub decreases-loop-i : goal.decreases-loop-i
 decreases-loop-i l = length l.bytes - l.i

@@ -1,32 +1,13 @@
--- `study::records::read_branching` meets its contract, case by case. Assumes nothing.
+-- `study::records::read_branching` meets its contract, taken or refused. Assumes nothing.
 use mathlib.Core.Path.{refl}
-use Rattle.model.specs.Faults.{own_fault}
 use Rattle.model.specs.Machine.{accepted, with_reading}
-use Rattle.model.proofs.Follows.{trees_next}
-use Rattle.study.proofs.RecordLaws.{place_refused, own_refused, without_fault}
+use Rattle.study.proofs.RecordLaws.{refused_for, taken_for}
 use Rattle.study.proofs.records.read_branching.Goals as goal
 
-pub returns-then-misplaced-ne0 : goal.returns-then-misplaced-ne0
+pub returns-in-Ok : goal.returns-in-Ok
+unfolding accepted
+returns-in-Ok c q s m f = rw c.requires (taken_for _ _ (rw c.word_at-chance.ensures at c.in-Ok.ensures) (rw (c.take_branching.ensures.value, c.take_branching.ensures.stack_after, c.word_at-chance.ensures) refl))
+
+pub returns-in-Err : goal.returns-in-Err
 unfolding with_reading
-returns-then-misplaced-ne0 c q s m f = rw c.requires (place_refused _ _ _ c.place_fault-misplaced.ensures c.if-misplaced-ne0.true (rw c.refused.ensures refl))
-
-pub returns-then-own-ne0 : goal.returns-then-own-ne0
-unfolding own_fault with_reading
-returns-then-own-ne0 c q s m f =
-    let o = c.before.before in
-    let w = o.before.before in
-    let e = w.before in
-    let p = e.before in
-    let own = rw (w.word_at-chance.ensures, ← trees_next) at o.own_branching-own.ensures in
-    rw p.requires (own_refused _ _ _ _ p.place_fault-misplaced.ensures e.if-misplaced-ne0.false own c.if-own-ne0.true (rw c.refused-then-own-ne0.ensures refl))
-
-pub returns : goal.returns
-unfolding accepted own_fault
-returns c q s m f =
-    let o = c.before.before.before in
-    let w = o.before.before in
-    let e = w.before in
-    let p = e.before in
-    let own = rw (w.word_at-chance.ensures, ← trees_next) at o.own_branching-own.ensures in
-    rw p.requires
-    (without_fault _ _ _ _ p.place_fault-misplaced.ensures e.if-misplaced-ne0.false own c.if-own-ne0.false (rw (c.take_branching.ensures.value, c.take_branching.ensures.stack_after, w.word_at-chance.ensures) refl))
+returns-in-Err c q s m f = rw c.requires (refused_for _ _ _ (rw c.word_at-chance.ensures at c.in-Err.ensures) (rw c.refused.ensures refl))

@@ -1,24 +1,13 @@
--- `study::records::read_closing` meets its contract, case by case. Assumes nothing.
-use mathlib.Core.Path.{refl, ◌∙◌}
-use Rattle.model.specs.Faults.{own_fault}
+-- `study::records::read_closing` meets its contract, taken or refused. Assumes nothing.
+use mathlib.Core.Path.{refl}
 use Rattle.model.specs.Machine.{accepted, with_reading}
-use Rattle.study.proofs.RecordLaws.{place_refused, own_refused, without_fault}
+use Rattle.study.proofs.RecordLaws.{refused_for, taken_for}
 use Rattle.study.proofs.records.read_closing.Goals as goal
 
-pub returns-then-misplaced-ne0 : goal.returns-then-misplaced-ne0
+pub returns-in-Ok : goal.returns-in-Ok
+unfolding accepted
+returns-in-Ok c q k s m f = rw c.requires (taken_for _ _ (c.in-Ok.ensures k) (rw c.core_closing.ensures refl))
+
+pub returns-in-Err : goal.returns-in-Err
 unfolding with_reading
-returns-then-misplaced-ne0 c q k s m f = rw c.requires (place_refused _ _ _ c.place_fault-misplaced.ensures c.if-misplaced-ne0.true (rw c.refused.ensures refl))
-
-pub returns-then-own-ne0 : goal.returns-then-own-ne0
-unfolding own_fault with_reading
-returns-then-own-ne0 c q k s m f =
-    let p = c.before.before.before.before in
-    rw p.requires
-    (own_refused _ _ _ _ p.place_fault-misplaced.ensures c.if-misplaced-ne0.false (c.number_in-own.ensures ∙ c.own_closing.ensures) c.if-own-ne0.true (rw c.refused-then-own-ne0.ensures refl))
-
-pub returns : goal.returns
-unfolding accepted own_fault
-returns c q k s m f =
-    let p = c.before.before.before.before in
-    rw p.requires
-    (without_fault _ _ _ _ p.place_fault-misplaced.ensures c.if-misplaced-ne0.false (c.number_in-own.ensures ∙ c.own_closing.ensures) c.if-own-ne0.false (rw c.core_closing.ensures refl))
+returns-in-Err c q k s m f = rw c.requires (refused_for _ _ _ (c.in-Err.ensures k) (rw c.refused.ensures refl))

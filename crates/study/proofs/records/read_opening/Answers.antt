@@ -1,17 +1,15 @@
--- `study::records::read_opening` meets its contract, case by case. Assumes nothing.
+-- `study::records::read_opening` meets its contract, taken or refused. Assumes nothing.
 use mathlib.Core.Path.{refl}
 use Rattle.model.specs.Faults.{own_fault}
 use Rattle.model.specs.Machine.{accepted, with_reading}
-use Rattle.study.proofs.RecordLaws.{place_refused, without_fault}
+use Rattle.faults.proofs.Laws.{number_nonzero}
+use Rattle.study.proofs.RecordLaws.{place_refused, fault_by_own, taken_for}
 use Rattle.study.proofs.records.read_opening.Goals as goal
 
-pub returns-then-misplaced-ne0 : goal.returns-then-misplaced-ne0
-unfolding with_reading
-returns-then-misplaced-ne0 c q k s m f = rw c.requires (place_refused _ _ _ c.place_fault-misplaced.ensures c.if-misplaced-ne0.true (rw c.refused.ensures refl))
-
-pub returns : goal.returns
+pub returns-in-Ok : goal.returns-in-Ok
 unfolding accepted own_fault
-returns c q k s m f =
-    let p = c.before.before.before in
-    rw p.requires
-    (without_fault _ _ _ 0 p.place_fault-misplaced.ensures c.if-misplaced-ne0.false refl refl (rw (c.core_opening.ensures, c.word_at.ensures) refl))
+returns-in-Ok c q k s m f = rw c.requires (taken_for _ _ (fault_by_own _ k _ 0 c.in-Ok.ensures refl) (rw (c.core_opening.ensures, c.word_at.ensures) refl))
+
+pub returns-in-Err : goal.returns-in-Err
+unfolding with_reading
+returns-in-Err c q k s m f = rw c.requires (place_refused _ _ _ c.in-Err.ensures (number_nonzero _) (rw c.refused.ensures refl))

@@ -1,24 +1,13 @@
--- `study::records::read_target` meets its contract, case by case. Assumes nothing.
+-- `study::records::read_target` meets its contract, taken or refused. Assumes nothing.
 use mathlib.Core.Path.{refl}
-use Rattle.model.specs.Faults.{own_fault}
 use Rattle.model.specs.Machine.{accepted, with_reading}
-use Rattle.study.proofs.RecordLaws.{place_refused, own_refused, without_fault}
+use Rattle.study.proofs.RecordLaws.{refused_for, taken_for}
 use Rattle.study.proofs.records.read_target.Goals as goal
 
-pub returns-then-misplaced-ne0 : goal.returns-then-misplaced-ne0
+pub returns-in-Ok : goal.returns-in-Ok
+unfolding accepted
+returns-in-Ok c q k s m = rw c.requires (taken_for _ _ (c.in-Ok.ensures k) (rw (c.take_target.ensures.value, c.take_target.ensures.facts_after) refl))
+
+pub returns-in-Err : goal.returns-in-Err
 unfolding with_reading
-returns-then-misplaced-ne0 c q k s m = rw c.requires (place_refused _ _ _ c.place_fault-misplaced.ensures c.if-misplaced-ne0.true (rw c.refused.ensures refl))
-
-pub returns-then-own-ne0 : goal.returns-then-own-ne0
-unfolding own_fault with_reading
-returns-then-own-ne0 c q k s m =
-    let p = c.before.before.before.before in
-    rw p.requires
-    (own_refused _ _ _ _ p.place_fault-misplaced.ensures c.if-misplaced-ne0.false c.own_target-own.ensures c.if-own-ne0.true (rw c.refused-then-own-ne0.ensures refl))
-
-pub returns : goal.returns
-unfolding accepted own_fault
-returns c q k s m =
-    let p = c.before.before.before.before.before in
-    rw p.requires
-    (without_fault _ _ _ _ p.place_fault-misplaced.ensures c.if-misplaced-ne0.false c.own_target-own.ensures c.if-own-ne0.false (rw (c.take_target.ensures.value, c.take_target.ensures.facts_after) refl))
+returns-in-Err c q k s m = rw c.requires (refused_for _ _ _ (c.in-Err.ensures k) (rw c.refused.ensures refl))

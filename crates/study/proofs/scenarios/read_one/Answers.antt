@@ -104,7 +104,7 @@ returns-then-kind-eq-OUTCOME c =
       records = records_alone l 4 n c.requires.0;
       by_index = λ q.
           entered_after _ g.k g.b g.y g.at 4 4 l g.kinds.now q _ _ _ _ _ n c.entered_at-c-then-kind-eq-OUTCOME.ensures
-          (read_alone _ _ q _ _ _ _ l 4 n (rw w.1 at (c.read_outcome-r.ensures q g.sums.now g.margins.now g.facts.now)));
+          (read_alone _ _ q _ _ _ _ l 4 n (rw w.1 at (c.read_outcome-r.ensures q g.tables.now.rows.sums g.tables.now.rows.margins g.tables.now.rows.facts)));
     }
 
 pub read_leak-r-requires : goal.read_leak-r-requires
@@ -140,13 +140,13 @@ pub entered_at-c-requires-2 : goal.entered_at-c-requires-2
 entered_at-c-requires-2 c =
     let l = c.args.p.now in
     let i = effect_at l _ c.requires.0 c.requires.1 c.kind-kind.ensures c.if-kind-eq-BRANCHING.false c.if-kind-gt-TIMED_EFFECT.false c.if-kind-eq-OUTCOME.false c.if-kind-eq-LEAK.false in
-    omega (arith, length_here l _ _ c.requires.0 c.requires.1 i c.kind-kind.ensures c.effect_length-n.ensures, length_most l i, c.requires.0, c.requires.2)
+    omega (arith, length_here l _ _ c.requires.0 c.requires.1 i c.kind-kind.ensures c.effect_length.ensures, length_most l i, c.requires.0, c.requires.2)
 
 pub read_effects-requires : goal.read_effects-requires
 read_effects-requires c =
     let l = c.args.p.now in
     let i = effect_at l _ c.requires.0 c.requires.1 c.kind-kind.ensures c.if-kind-eq-BRANCHING.false c.if-kind-gt-TIMED_EFFECT.false c.if-kind-eq-OUTCOME.false c.if-kind-eq-LEAK.false in
-    let n = length_here l _ _ c.requires.0 c.requires.1 i c.kind-kind.ensures c.effect_length-n.ensures in
+    let n = length_here l _ _ c.requires.0 c.requires.1 i c.kind-kind.ensures c.effect_length.ensures in
     record {
       in_bounds = (c.requires.0, i);
       have_value = rw c.entered_at-c-2.ensures (n, ap (λ (x : ℕ). c.args.at + x) n, c.requires.2);
@@ -157,7 +157,7 @@ returns c =
     let g = c.args in
     let l = g.p.now in
     let i = effect_at l _ c.requires.0 c.requires.1 c.kind-kind.ensures c.if-kind-eq-BRANCHING.false c.if-kind-gt-TIMED_EFFECT.false c.if-kind-eq-OUTCOME.false c.if-kind-eq-LEAK.false in
-    let n = length_here l _ _ c.requires.0 c.requires.1 i c.kind-kind.ensures c.effect_length-n.ensures in
+    let n = length_here l _ _ c.requires.0 c.requires.1 i c.kind-kind.ensures c.effect_length.ensures in
     record {
       records = c.read_effects.ensures.records;
       by_index = λ q. entered_after _ g.k g.b g.y g.at _ _ l g.kinds.now q _ _ _ _ _ n c.entered_at-c-2.ensures (c.read_effects.ensures.by_index g.kinds.now q _);

@@ -4,13 +4,13 @@ use lib.Dec.{T}
 use Rattle.reading.proofs.EnterLaws.{pending_wide, step_by_parts}
 use Rattle.study.proofs.whole.enter.Goals as goal
 
-pub entered-begun-requires : goal.entered-begun-requires
-entered-begun-requires c = (c.requires.0 c.if-direct.true).between
+pub entered-requires : goal.entered-requires
+entered-requires c = (c.requires.0 c.if-direct.true).between
 
 pub returns-then-direct : goal.returns-then-direct
 returns-then-direct c = record {
   p_len_unchanged = refl;
-  whole_value = λ z. (refl, c.entered-begun.ensures);
+  whole_value = λ z. (refl, c.entered.ensures);
   bytes_value = λ z. absurd (subst T (sym c.if-direct.true ∙ z) tt);
 }
 

@@ -27,8 +27,8 @@ read_records-run-requires c =
     let e = c.enter-e.ensures in
     either_wide c.next_here-direct.result c.args.c.reading c.args.bytes.now c.enter-e.new.p _ c.args.from c.next_here-direct.ensures (e.p_len_unchanged ∙ c.requires.1) c.source-here.ensures
 
-pub overflow_add-end : goal.overflow_add-end
-overflow_add-end c =
+pub overflow_add-result : goal.overflow_add-result
+overflow_add-result c =
     let there = either_there c.next_here-direct.result c.args.bytes.now c.enter-e.new.p _ c.args.from _ c.requires.0 c.source-here.ensures c.read_records-run.ensures.records in
     omega (arith, c.taken_from.ensures, there, c.well_formed)
 
@@ -39,7 +39,7 @@ returns-then-e c =
     let x = entered_at _ _ c.args.c _ c.args.kinds.now _ _ c.args.bytes.now c.args.from c.requires e.p_len_unchanged c.next_here-direct.ensures e.whole_value e.bytes_value in
     record {
       from_lt_at = rw c.taken_from.ensures (either_there c.next_here-direct.result c.args.bytes.now c.enter-e.new.p _ c.args.from _ c.requires.0 c.source-here.ensures r.records);
-      facts_after = rw (c.clear.ensures, c.taken_from.ensures) (either_read _ _ _ _ _ _ _ _ _ _ _ _ _ _ _ x c.if-e.true c.source-here.ensures r.records r.by_index);
+      facts_after = rw c.taken_from.ensures (either_read _ _ _ _ _ _ _ _ _ _ _ _ _ _ _ x c.if-e.true c.source-here.ensures r.records r.by_index);
     }
 
 pub returns : goal.returns

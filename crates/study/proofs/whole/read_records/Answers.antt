@@ -55,7 +55,7 @@ slice_bounds-entered-start c =
     omega (arith, (read_to l v.at _ v.invariant.0 c.read_some-run.ensures.records).there)
 
 pub entered-core-requires : goal.entered-core-requires
-entered-core-requires c = (c.next_here.ensures c.if-next_here.true).between
+entered-core-requires c = (c.next_here.ensures c.if-not-next_here.false).between
 
 pub loop-at-smaller : goal.loop-at-smaller
 loop-at-smaller c =
@@ -70,15 +70,15 @@ loop-at-preserved c =
     let some = read_in l v.at _ c.read_some-run.ensures.records in
     let r = read_to l v.at _ v.invariant.0 c.read_some-run.ensures.records in
     let at = v.at + c.read_some-run.result.at in
-    let n : Next c.read_some-run.result.core.reading (drop at l) = rw (rest_is l at) at (c.next_here.ensures c.if-next_here.true) in (
+    let n : Next c.read_some-run.result.core.reading (drop at l) = rw (rest_is l at) at (c.next_here.ensures c.if-not-next_here.false) in (
       standing_next _ l at r n,
       λ q.
           let a = more_read _ _ _ l v.at _ v.invariant.0 (v.invariant.1 q) some (rw (rest_is l v.at) at (c.read_some-run.ensures.by_index q)) in
           rw (c.entered-core.ensures, rest_is l at) (reached_next _ _ q _ _ _ _ l at r n a),
     )
 
-pub returns-else-next_here : goal.returns-else-next_here
-returns-else-next_here c =
+pub returns-then-not-next_here : goal.returns-then-not-next_here
+returns-then-not-next_here c =
     let v = c.loop-at in
     let l = c.args.bytes.now in
     let some = read_in l v.at _ c.read_some-run.ensures.records in

@@ -5,10 +5,7 @@ use Rattle.study.proofs.SpanLaws.{read_alone, records_alone}
 use Rattle.study.proofs.whole.read_some.Goals as goal
 
 pub read_scenarios-requires : goal.read_scenarios-requires
-read_scenarios-requires c =
-    let i = c.before.before.before.before.before in
-    let o = i.before in
-    (o.requires, ap of_scenario (sym o.kind-kind.ensures) ∙ sym o.of_scenario.ensures ∙ i.if-of_scenario.true)
+read_scenarios-requires c = (c.requires, ap of_scenario (sym c.kind.ensures) ∙ sym c.of_scenario.ensures ∙ c.if-of_scenario.true)
 
 pub returns-then-of_scenario : goal.returns-then-of_scenario
 returns-then-of_scenario c = record {
@@ -17,17 +14,13 @@ returns-then-of_scenario c = record {
 }
 
 pub read_other-requires : goal.read_other-requires
-read_other-requires c =
-    let i = c.before in
-    let o = i.before in
-    ap of_scenario (sym o.kind-kind.ensures) ∙ sym o.of_scenario.ensures ∙ i.if-of_scenario.false
+read_other-requires c = ap of_scenario (sym c.kind.ensures) ∙ sym c.of_scenario.ensures ∙ c.if-of_scenario.false
 
 pub returns : goal.returns
 returns c =
-    let a = c.before.before.before.before.before.before in
-    let l = a.args.bytes.now in
+    let l = c.args.bytes.now in
     let n = c.read_other.ensures.at_value in
     record {
-      records = records_alone l _ n a.requires;
-      by_index = λ q. read_alone _ _ q _ _ _ _ l _ n (c.read_other.ensures.facts_after a.args.kinds.now q _ _ _);
+      records = records_alone l _ n c.requires;
+      by_index = λ q. read_alone _ _ q _ _ _ _ l _ n (c.read_other.ensures.facts_after c.args.kinds.now q _ _ _);
     }

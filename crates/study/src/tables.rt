@@ -1,0 +1,11 @@
+// What a study keeps beside the parts that go by value.
+use state::Rows;
+
+#[repr(C)]
+#[derive(Clone, Copy)]
+pub(crate) struct Tables {
+    // the trees still to come, each with its frequency and the branchings above it
+    pub(crate) stack: [u64; 9],
+    // for each target its sum, its margin, and its facts with its mark on the domino list
+    pub(crate) rows: Rows,
+}
