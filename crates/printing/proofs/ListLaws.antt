@@ -12,6 +12,7 @@ use Rattle.model.specs.Machine.{totals_in, target_in}
 use Rattle.lines.specs.Text.{study_line, kind_line, target_line, unjudged_line, refused_line}
 use Rattle.study.specs.View.{view}
 use Rattle.study.specs.declared.pieces.Taken.{Taken}
+use Rattle.study.proofs.RunLaws.{target_given}
 use Rattle.numeric.specs.Choice.{if_eq}
 use Rattle.numeric.proofs.ChoiceLaws.{eq_case, ne_case}
 use Rattle.printing.specs.Report.{kind_lines, target_lines, closed_lines}
@@ -148,3 +149,8 @@ module _ (t : Taken) where
   pub report_other : (t.number ≡ 7 → ⊥) → report_lines t ≡ lines_of (target_in (view t.study)) (totals_in t.study.core)
   unfolding report_lines
   report_other h = sym (ne_case _ _ _ _ h refl)
+
+-- what the code of a target's line asks, and that of any line
+pub ruleset target_steps = (target_given, closed_target, closed_last, closed_past)
+
+pub ruleset closed_steps = (closed_first, closed_kind, closed_after)
