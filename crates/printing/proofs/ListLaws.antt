@@ -12,7 +12,6 @@ use Rattle.model.specs.Machine.{totals_in, target_in}
 use Rattle.lines.specs.Text.{study_line, kind_line, target_line, unjudged_line, refused_line}
 use Rattle.study.specs.View.{view}
 use Rattle.study.specs.declared.pieces.Taken.{Taken}
-use Rattle.study.proofs.RunLaws.{target_given}
 use Rattle.numeric.specs.Choice.{if_eq}
 use Rattle.numeric.proofs.ChoiceLaws.{eq_case, ne_case}
 use Rattle.printing.specs.Report.{kind_lines, target_lines, closed_lines}
@@ -150,7 +149,5 @@ module _ (t : Taken) where
   unfolding report_lines
   report_other h = sym (ne_case _ _ _ _ h refl)
 
--- what the code of a target's line asks, and that of any line
-pub ruleset target_steps = (target_given, closed_target, closed_last, closed_past)
-
+-- what the code of any line of a closed report asks
 pub ruleset closed_steps = (closed_first, closed_kind, closed_after)

@@ -39,7 +39,7 @@ fn kind_line_at(kinds: [u64; 6], k: u32) -> Line
 }
 
 // The line of a target, and after the last that of the unjudged effects; an empty one past it.
-#[tactic(auto, using(crate::proofs::ListLaws::target_steps))]
+#[tactic(auto, using(crate::proofs::ListLaws::closed_last, crate::proofs::ListLaws::closed_past))]
 fn target_line_at(s: Study, t: Totals, n: u32) -> Line
     ensures { text_of result ≡ get_or (closed_lines (target_in (view s)) t) (7 + n) [] }
 {
@@ -97,7 +97,7 @@ fn count_of(t: Totals) -> u32
 }
 
 // How many lines the report has.
-#[tactic(auto, using(crate::proofs::ListLaws::lines_length, study::proofs::RunLaws::totals_given), unfolding(crate::specs::Lines::report_lines, numeric::specs::Choice::if_eq))]
+#[tactic(auto, unfolding(crate::specs::Lines::report_lines, numeric::specs::Choice::if_eq))]
 pub fn report_length(t: Taken) -> u32
     ensures { result ≡ length (report_lines t) }
 {
