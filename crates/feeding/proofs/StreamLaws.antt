@@ -2,6 +2,7 @@
 use Rattle.std.proofs.Common.{◌≡◌, refl, sym, ap, ◌∙◌, subst, Option, None, Some, List, [], ◌∷◌, ◌++◌, append_assoc, append-nil, ℕ, ◌+◌, ◌<◌, ◌≤◌, length, take, drop, get_or, length-take, length-take-le, arith}
 use Rattle.std.proofs.Math.Seq.{take-append_seam}
 use Rattle.std.proofs.lemmas.List.{take_more}
+use Rattle.std.proofs.Common.{take_all}
 use Rattle.std.proofs.lemmas.List.Folds.{concat-append}
 use Rattle.std.specs.Prelude.{IfSome}
 use Rattle.std.specs.List.{concat}
@@ -117,3 +118,8 @@ line_put line n out before p q e f =
     let a : length (take line.len line.text) ≡ n = le_case _ _ _ _ h refl ∙ sym p in
     let b : take line.len line.text ++ drop (length (take line.len line.text)) before ≡ out = le_case _ _ _ _ h refl ∙ sym q in
     rw (← a, ← b) (take-append_seam (take line.len line.text) _)
+
+-- what the code of `read_study` asks, and that of `write_report`
+pub ruleset read_steps = (nothing_read, more_read, all_read, some_bytes)
+
+pub ruleset write_steps = (appended_none, take_all)

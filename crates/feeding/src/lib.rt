@@ -10,6 +10,7 @@ use study::{Study, Taken};
 
 // Reads to the end; none where the stream does not end. Nothing says that one does, so the reads are counted up to a number that no run reaches. A piece has
 // bytes, so that its answer is 7 wherever bytes follow the closing record.
+#[tactic(auto, using(crate::proofs::StreamLaws::read_steps))]
 pub fn read_study<R: io::Read>(input: &mut R) -> io::Result<Option<Taken>>
     ensures { ReadWhole (R.remaining input.old) result }
 {
@@ -30,6 +31,7 @@ pub fn read_study<R: io::Read>(input: &mut R) -> io::Result<Option<Taken>>
 }
 
 // Writes the report, as far as it can be written.
+#[tactic(auto, using(crate::proofs::StreamLaws::write_steps))]
 pub fn write_report<W: io::Write>(to: &mut W, taken: Taken) -> io::Result<()>
     ensures { OnOk result (Appends (W.contents to.old) (W.contents to.new) (report_bytes taken)) }
 {

@@ -148,3 +148,6 @@ module _ (t : Taken) where
   pub report_other : (t.number ≡ 7 → ⊥) → report_lines t ≡ lines_of (target_in (view t.study)) (totals_in t.study.core)
   unfolding report_lines
   report_other h = sym (ne_case _ _ _ _ h refl)
+
+-- what the code of any line of a closed report asks
+pub ruleset closed_steps = (closed_first, closed_kind, closed_after)

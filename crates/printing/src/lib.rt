@@ -39,6 +39,7 @@ fn kind_line_at(kinds: [u64; 6], k: u32) -> Line
 }
 
 // The line of a target, and after the last that of the unjudged effects; an empty one past it.
+#[tactic(auto, using(crate::proofs::ListLaws::closed_last, crate::proofs::ListLaws::closed_past))]
 fn target_line_at(s: Study, t: Totals, n: u32) -> Line
     ensures { text_of result ≡ get_or (closed_lines (target_in (view s)) t) (7 + n) [] }
 {
@@ -50,6 +51,7 @@ fn target_line_at(s: Study, t: Totals, n: u32) -> Line
 }
 
 // A line of a closed study's report.
+#[tactic(auto, using(crate::proofs::ListLaws::closed_steps))]
 fn closed_line_at(s: Study, t: Totals, i: u32) -> Line
     ensures { text_of result ≡ get_or (closed_lines (target_in (view s)) t) i [] }
 {
@@ -61,6 +63,7 @@ fn closed_line_at(s: Study, t: Totals, i: u32) -> Line
 }
 
 // A line of the report of a study with these totals.
+#[tactic(auto, unfolding(crate::specs::Lines::lines_of, numeric::specs::Choice::if_eq))]
 fn line_at(s: Study, t: Totals, i: u32) -> Line
     ensures { text_of result ≡ get_or (lines_of (target_in (view s)) t) i [] }
 {
@@ -71,6 +74,7 @@ fn line_at(s: Study, t: Totals, i: u32) -> Line
 }
 
 // A line of the report; an empty one past the last.
+#[tactic(auto, using(study::proofs::RunLaws::totals_given), unfolding(crate::specs::Lines::report_lines, numeric::specs::Choice::if_eq))]
 pub fn report_line(t: Taken, i: u32) -> Line
     ensures { text_of result ≡ get_or (report_lines t) i [] }
 {
@@ -82,6 +86,7 @@ pub fn report_line(t: Taken, i: u32) -> Line
 }
 
 // How many lines a report with these totals has.
+#[tactic(auto, unfolding(numeric::specs::Choice::if_eq))]
 fn count_of(t: Totals) -> u32
     ensures { result ≡ if_eq t.number 0 (8 + t.targets) 1 }
 {
@@ -92,6 +97,7 @@ fn count_of(t: Totals) -> u32
 }
 
 // How many lines the report has.
+#[tactic(auto, unfolding(crate::specs::Lines::report_lines, numeric::specs::Choice::if_eq))]
 pub fn report_length(t: Taken) -> u32
     ensures { result ≡ length (report_lines t) }
 {

@@ -1,13 +1,10 @@
--- `printing::report_length` meets its contract. Assumes nothing.
+-- `printing::report_length` meets its contract: the lines of a report by its totals. Assumes nothing.
 use Rattle.std.proofs.Common.{◌+◌, length, sym, ap, ◌∙◌, rules}
 use Rattle.numeric.specs.Choice.{if_eq}
 use Rattle.state.specs.declared.Totals.{Totals}
 use Rattle.study.proofs.RunLaws.{totals_given}
-use Rattle.printing.proofs.ListLaws.{report_seven, report_other, lines_length}
+use Rattle.printing.proofs.ListLaws.{report_other, lines_length}
 use Rattle.printing.proofs.report_length.Goals as goal
-
-pub returns-then-t-eq-AFTER_CLOSING : goal.returns-then-t-eq-AFTER_CLOSING
-returns-then-t-eq-AFTER_CLOSING c = ap length (sym (report_seven _ (search rules)))
 
 pub returns-else-t-eq-AFTER_CLOSING : goal.returns-else-t-eq-AFTER_CLOSING
 returns-else-t-eq-AFTER_CLOSING c =
