@@ -58,7 +58,11 @@ static CHANCES: [u32; 544] = [
 fn row_chance(hundredth: u64) -> u32
     ensures { result ≡ get_or rows (min hundredth 543) 0 }
 {
-    CHANCES[hundredth.min(543) as usize]
+    if hundredth < 543 {
+        CHANCES[hundredth as usize]
+    } else {
+        999_000
+    }
 }
 
 // The chance, in millionths, of the probit plus - minus, in millionths, which may be negative.

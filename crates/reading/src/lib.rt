@@ -35,7 +35,7 @@ pub fn begin(h: Reading, kind: u8) -> Reading
     }
 }
 
-// One byte more of the body.
+// One byte more of the body. An `if`, not `saturating_add` and `min`, which take more instructions for each byte.
 #[tactic(auto, unfolding(model::specs::Machine::grown))]
 pub fn grow(h: Reading) -> Reading
     ensures { result ≡ grown h }

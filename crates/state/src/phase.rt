@@ -1,4 +1,5 @@
-// The phases of the reading.
+// The phases of the reading. Numbers, not an enum: functions of reading, reporting and study answer for every number in `Reading::phase`, and theorem `ViewIsWhole`
+// speaks of every state.
 
 // records are still read
 pub const OPEN: u32 = 0;

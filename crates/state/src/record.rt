@@ -1,4 +1,4 @@
-// The kinds of records, which their first bytes say.
+// The kinds of records, which their first bytes say. Numbers, not an enum: `decoding::body_length` and `faults::order_fault` answer for every byte.
 pub const OPENING: u8 = 1;
 
 pub const TARGET: u8 = 2;
