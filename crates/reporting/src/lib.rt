@@ -40,12 +40,6 @@ pub fn closed(h: Reading) -> Result<u64, Refused>
     }
 }
 
-pub fn least(x: u16, y: u16) -> u16
-    ensures { result ≡ min x y }
-{
-    x.min(y)
-}
-
 fn refused_totals(number: u8, place: u64) -> Totals
     ensures { result ≡ no_totals number place }
 {
