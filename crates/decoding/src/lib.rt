@@ -15,7 +15,11 @@ pub fn body_length(kind: u8) -> u8
     ensures { result ≡ body_length kind }
 {
     if record::TIMED_EFFECT < kind {
-        return if kind == record::CURVE_BRANCHING { 5 } else { 0 };
+        return if kind == record::CURVE_BRANCHING {
+            5
+        } else {
+            0
+        };
     }
     match kind {
         record::OPENING | record::BRANCHING => 4,
@@ -41,7 +45,8 @@ pub fn kind(p: &[u8]) -> u8
     byte(p, 0)
 }
 
-// The number in one, two, four or eight bytes from a place on.
+// The number in one, two, four or eight bytes from a place on. One function for each width: the library's `from_be_bytes` belongs to no trait, and one of our own
+// would say each width again.
 #[tactic(auto, unfolding(model::specs::Verdict::field))]
 pub fn byte_at(p: &[u8], at: u8) -> u8
     ensures { result ≡ field p.now at 1 }

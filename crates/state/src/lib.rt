@@ -93,7 +93,8 @@ pub struct Row {
     pub facts: u64,
 }
 
-// What a study keeps of all targets: for each its sum, its margin, and its facts packed with its mark on the domino list.
+// What a study keeps of all targets: for each its sum, its margin, and its facts packed with its mark on the domino list. Three arrays, and none of rows: a row
+// with its padding has 24 bytes, and a study the size that include/riskdesk.h promises.
 #[repr(C)]
 #[derive(Clone, Copy)]
 pub struct Rows {
@@ -101,6 +102,8 @@ pub struct Rows {
     pub margins: [u32; 256],
     pub facts: [u64; 256],
 }
+
+// Below, the number of each report is a number, 0 or that of a `Refusal`, and the class one too: C reads them.
 
 // A report of the whole study. A refused one has 0 in every field but number and place.
 #[repr(C)]

@@ -22,7 +22,7 @@ pub struct Fed {
     pub answer: Answer,
 }
 
-// Reads all bytes: the parts that go by value afterwards, and the arrays in place. The totals of the kinds stand in an array of their own in the loop,
+// Reads all bytes, some records or a byte at a turn: the parts that go by value afterwards, and the arrays in place. The totals of the kinds stand in an array of their own in the loop,
 // and are put back at the end.
 pub(crate) fn read_into(c: Core, bytes: &[u8], pending: &mut [u8; 16], tables: &mut Tables) -> Core
     requires { length pending.old ≡ 16 }

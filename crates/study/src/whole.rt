@@ -43,7 +43,8 @@ fn read_some(c: Core, bytes: &[u8], tables: &mut Tables, kinds: &mut [u64; 6]) -
     read_other(c, bytes, &mut tables.rows.facts)
 }
 
-// The record that the bytes begin with, which has been entered, and the whole records that follow it.
+// The record that the bytes begin with, which has been entered, and the whole records that follow it. Records have different lengths, so that no iterator of the
+// library goes from one to the next.
 fn read_records(c: Core, bytes: &[u8], tables: &mut Tables, kinds: &mut [u64; 6]) -> Run
     requires { 16 ≤ length bytes.now }
     ensures records { Records bytes.now result.at }
