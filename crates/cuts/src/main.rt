@@ -43,12 +43,7 @@ fn same(a: Taken, b: Taken) -> bool {
 
 // The first place inside at which a cut gives another answer.
 fn first_difference(bytes: &[u8], t: Taken) -> Option<usize> {
-    for at in 1..bytes.len() {
-        if !same(t, in_two(bytes, at)) {
-            return Some(at);
-        }
-    }
-    None
+    (1..bytes.len()).find(|at| !same(t, in_two(bytes, *at)))
 }
 
 fn compare(rt: &impl Print, name: &str, bytes: &[u8]) -> io::Result<()> {

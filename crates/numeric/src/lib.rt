@@ -1,7 +1,9 @@
-// Arithmetic on frequencies and chances, without overflow.
+// Arithmetic on frequencies and chances, without overflow, and a store in an array.
 #![tactic(auto)]
 
 ghost use Rattle.std.specs.Prelude.{◌≡◌, ◌+◌, ◌-◌, ◌%◌, ◌≤◌, min};
+ghost use lib.ListN.{set};
+ghost use Rattle.numeric.specs.Choice.{if_lt};
 ghost use Rattle.numeric.specs.Share.{certain, share_of, split_of};
 
 // The frequencies of the two branches of a branching.
@@ -48,5 +50,15 @@ pub fn split(frequency: u64, chance: u32) -> Branches
     Branches {
         first,
         second: frequency.saturating_sub(first),
+    }
+}
+
+// A store in an array; nothing past its end. By index: tried with `get_mut`, and the check did not find the proof.
+#[tactic(auto, unfolding(crate::specs::Choice::if_lt))]
+pub fn put<T: Copy, const N: usize>(list: &mut [T; N], at: usize, x: T)
+    ensures { list.new ≡ if_lt at N (set list.old at x) list.old }
+{
+    if at < N {
+        list[at] = x;
     }
 }

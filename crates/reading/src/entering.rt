@@ -1,21 +1,9 @@
 // A byte more of a record that a piece's end cuts.
 ghost use Rattle.std.specs.Prelude.{◌≡◌};
-ghost use Rattle.model.specs.Machine.{store};
 ghost use Rattle.reading.specs.Entering.{pending_with, entered_with};
 
 use crate::{begin, core_reading, grow};
 use state::{Core, phase};
-
-// The library's `get_mut` does not say that sixteen bytes stay, so the place is compared here.
-#[tactic(auto, unfolding(model::specs::Machine::store, numeric::specs::Choice::if_lt))]
-fn put_pending(p: &mut [u8; 16], at: u8, b: u8)
-    ensures { p.new ≡ store 16 p.old at b }
-{
-    let i = at as usize;
-    if i < p.len() {
-        p[i] = b;
-    }
-}
 
 // The parts that go by value after a byte, and whether it made the record in the pending bytes whole: then it is still to be read. A flag, not an enum: the
 // reading goes on with these parts either way.
@@ -26,7 +14,7 @@ pub struct Entered {
 }
 
 // One byte more: the first of a record, or one of a record that has begun. Each case stores and returns by itself, which takes the fewest instructions.
-#[tactic(auto, unfolding(crate::specs::Entering::reading_with, crate::specs::Entering::pending_with, crate::specs::Entering::whole_with, crate::specs::Entering::whole_in, numeric::specs::Choice::if_eq, numeric::specs::Choice::if_le))]
+#[tactic(auto, unfolding(model::specs::Machine::store, crate::specs::Entering::reading_with, crate::specs::Entering::pending_with, crate::specs::Entering::whole_with, crate::specs::Entering::whole_in, numeric::specs::Choice::if_eq, numeric::specs::Choice::if_le))]
 pub fn enter_byte(c: Core, b: u8, p: &mut [u8; 16]) -> Entered
     ensures value { result ≡ entered_with c p.old b }
     ensures p_after { p.new ≡ pending_with c.reading p.old b }
@@ -39,13 +27,13 @@ pub fn enter_byte(c: Core, b: u8, p: &mut [u8; 16]) -> Entered
         };
     }
     if h.have == 0 {
-        put_pending(p, 0, b);
+        numeric::put(p, 0, b);
         return Entered {
             core: core_reading(c, begin(h, b)),
             whole: false,
         };
     }
-    put_pending(p, h.have, b);
+    numeric::put(p, h.have as usize, b);
     let grown = grow(h);
     let core = core_reading(c, grown);
     if decoding::body_length(p[0]) <= grown.have.saturating_sub(1) {

@@ -79,11 +79,15 @@ module _ (s : State) (r : Record) {x : State} where
   unfolding record_read
   without_fault m n p z e y q = eq_case _ _ _ _ (fault_of_own s.core s.stack r (sym p ∙ z) ∙ sym e ∙ y) q
 
+-- what `?` hands on has the reason's number
+pub err_number : (y : Result Unit Refusal) (w : Refusal) → IsErrAnd y (λ e. e ≡ w) → refusal_in y ≡ number_of w
+err_number (Ok d) w h = absurd h
+err_number (Err v) w h = ap number_of h
+
 -- A record's first fault: by its place, or of its own.
 module _ (c : Core) (k : List ℕ) (r : Record) where
-  pub fault_by_place : (y : Result Unit Refusal) (w : Refusal) → IsErrAnd y (λ e. e ≡ w) → number_of w ≡ place_fault c (role r) → refusal_in y ≡ fault_in c k r
-  fault_by_place (Ok d) w h e = absurd h
-  fault_by_place (Err v) w h e = ap number_of h ∙ e ∙ sym (fault_of_place c k r (λ z. number_nonzero w (e ∙ z)))
+  pub first_by_place : (w : Refusal) → number_of w ≡ place_fault c (role r) → number_of w ≡ fault_in c k r
+  first_by_place w e = e ∙ sym (fault_of_place c k r (λ z. number_nonzero w (e ∙ z)))
 
   pub fault_by_own : (n : ℕ) → 0 ≡ place_fault c (role r) → n ≡ own_fault (context_in c k) r → n ≡ fault_in c k r
   fault_by_own n p e = e ∙ sym (fault_of_own c k r (sym p))
@@ -92,6 +96,9 @@ module _ (c : Core) (k : List ℕ) (r : Record) where
 module _ (s : State) (r : Record) {x : State} where
   pub refused_for : (w : Refusal) → number_of w ≡ fault_in s.core s.stack r → x ≡ with_reading s (refused_with s.core.reading (number_of w)) → x ≡ record_read s r
   refused_for w e q = with_fault s r (number_of w) (sym e) (number_nonzero w) q
+
+  pub refused_as : (fault_in s.core s.stack r ≡ 0 → ⊥) → x ≡ with_reading s (refused_with s.core.reading (fault_in s.core s.stack r)) → x ≡ record_read s r
+  refused_as h q = with_fault s r _ refl h q
 
   pub taken_for : 0 ≡ fault_in s.core s.stack r → x ≡ accepted s r → x ≡ record_read s r
   unfolding record_read

@@ -97,6 +97,7 @@ fn own_curve(c: Core, curve: u8, rate: u32, stack: &[u64; 9]) -> Result<(), Refu
 }
 
 // Below, the first fault of a record of each kind.
+#[tactic(auto, using(crate::proofs::RecordLaws::err_number, crate::proofs::RecordLaws::first_by_place, crate::proofs::RecordLaws::fault_by_own), unfolding(model::specs::Faults::own_fault))]
 pub(crate) fn check_target(c: Core, p: &[u8]) -> Result<(), Refusal>
     ensures { (k : List ℕ) → refusal_in result ≡ fault_in c k (target_rec (field p.now 1 2) (described (facts_at p.now))) }
 {
@@ -108,6 +109,7 @@ pub(crate) fn check_target(c: Core, p: &[u8]) -> Result<(), Refusal>
     )
 }
 
+#[tactic(auto, using(crate::proofs::RecordLaws::err_number, crate::proofs::RecordLaws::first_by_place, crate::proofs::RecordLaws::fault_by_own), unfolding(model::specs::Faults::own_fault))]
 pub(crate) fn check_leak(c: Core, number: u32, frequency: u64) -> Result<(), Refusal>
     ensures { (k : List ℕ) → refusal_in result ≡ fault_in c k (leak_rec number frequency) }
 {
@@ -115,6 +117,7 @@ pub(crate) fn check_leak(c: Core, number: u32, frequency: u64) -> Result<(), Ref
     leak_fault(c.counts.scenarios, c.counts.last, number, frequency)
 }
 
+#[tactic(auto, using(crate::proofs::RecordLaws::err_number, crate::proofs::RecordLaws::first_by_place, crate::proofs::RecordLaws::fault_by_own, model::proofs::Follows::trees_next), unfolding(model::specs::Faults::own_fault))]
 pub(crate) fn check_branching(c: Core, chance: u32, stack: &[u64; 9]) -> Result<(), Refusal>
     ensures { refusal_in result ≡ fault_in c stack.now (branching_rec (given chance)) }
 {
@@ -122,6 +125,7 @@ pub(crate) fn check_branching(c: Core, chance: u32, stack: &[u64; 9]) -> Result<
     own_branching(c, chance, stack)
 }
 
+#[tactic(auto, using(crate::proofs::RecordLaws::err_number, crate::proofs::RecordLaws::first_by_place, crate::proofs::RecordLaws::fault_by_own, model::proofs::Follows::trees_next), unfolding(model::specs::Faults::own_fault))]
 pub(crate) fn check_curve(c: Core, curve: u8, rate: u32, stack: &[u64; 9]) -> Result<(), Refusal>
     ensures { refusal_in result ≡ fault_in c stack.now (branching_rec (on_curve curve rate)) }
 {
@@ -129,6 +133,7 @@ pub(crate) fn check_curve(c: Core, curve: u8, rate: u32, stack: &[u64; 9]) -> Re
     own_curve(c, curve, rate, stack)
 }
 
+#[tactic(auto, using(crate::proofs::RecordLaws::err_number, crate::proofs::RecordLaws::first_by_place, crate::proofs::RecordLaws::fault_by_own), unfolding(model::specs::Faults::own_fault))]
 pub(crate) fn check_outcome(c: Core, kind: u8, effects: u16) -> Result<(), Refusal>
     ensures { (k : List ℕ) → refusal_in result ≡ fault_in c k (outcome_rec kind effects) }
 {
@@ -136,6 +141,7 @@ pub(crate) fn check_outcome(c: Core, kind: u8, effects: u16) -> Result<(), Refus
     outcome_fault(kind, effects)
 }
 
+#[tactic(auto, using(crate::proofs::RecordLaws::err_number, crate::proofs::RecordLaws::first_by_place, crate::proofs::RecordLaws::fault_by_own), unfolding(model::specs::Faults::own_fault))]
 pub(crate) fn check_closing(c: Core, p: &[u8]) -> Result<(), Refusal>
     ensures { (k : List ℕ) → refusal_in result ≡ fault_in c k (closing_rec (field p.now 1 4) (field p.now 5 8)) }
 {

@@ -28,6 +28,7 @@ pub(crate) fn refused(c: Core, why: Refusal) -> Core
     reading::core_reading(c, reading::refuse(c.reading, why.number()))
 }
 
+#[tactic(auto, using(crate::proofs::RecordLaws::first_by_place, crate::proofs::RecordLaws::refused_as, crate::proofs::RecordLaws::fault_by_own, crate::proofs::RecordLaws::taken_for, faults::proofs::Laws::number_nonzero), unfolding(model::specs::Machine::accepted, model::specs::Machine::with_reading, model::specs::Faults::own_fault))]
 fn read_opening(c: Core, p: &[u8]) -> Core
     requires { decode p.now ≡ opening_rec (field p.now 1 4) }
     ensures { (q k s m f : List ℕ) → state result q k s m f ≡ record_read (state c q k s m f) (decode p.now) }
@@ -38,6 +39,7 @@ fn read_opening(c: Core, p: &[u8]) -> Core
     }
 }
 
+#[tactic(auto, using(crate::proofs::RecordLaws::refused_as, crate::proofs::RecordLaws::taken_for, faults::proofs::Laws::number_nonzero), unfolding(model::specs::Machine::accepted, model::specs::Machine::with_reading))]
 fn read_target(c: Core, p: &[u8], facts: &mut [u64; 256]) -> Core
     requires { decode p.now ≡ target_rec (field p.now 1 2) (described (facts_at p.now)) }
     ensures { (q k s m : List ℕ) → state result q k s m facts.new ≡ record_read (state c q k s m facts.old) (decode p.now) }
@@ -48,6 +50,7 @@ fn read_target(c: Core, p: &[u8], facts: &mut [u64; 256]) -> Core
     }
 }
 
+#[tactic(auto, using(crate::proofs::RecordLaws::refused_as, crate::proofs::RecordLaws::taken_for, faults::proofs::Laws::number_nonzero), unfolding(model::specs::Machine::accepted, model::specs::Machine::with_reading))]
 pub(crate) fn read_leak(c: Core, p: &[u8], stack: &mut [u64; 9]) -> Core
     requires { decode p.now ≡ leak_rec (field p.now 1 4) (field p.now 5 8) }
     ensures { (q s m f : List ℕ) → state result q stack.new s m f ≡ record_read (state c q stack.old s m f) (decode p.now) }
@@ -60,6 +63,7 @@ pub(crate) fn read_leak(c: Core, p: &[u8], stack: &mut [u64; 9]) -> Core
     }
 }
 
+#[tactic(auto, using(crate::proofs::RecordLaws::refused_as, crate::proofs::RecordLaws::taken_for, faults::proofs::Laws::number_nonzero), unfolding(model::specs::Machine::accepted, model::specs::Machine::with_reading))]
 pub(crate) fn read_branching(c: Core, p: &[u8], stack: &mut [u64; 9]) -> Core
     requires { decode p.now ≡ branching_rec (given (field p.now 1 4)) }
     ensures { (q s m f : List ℕ) → state result q stack.new s m f ≡ record_read (state c q stack.old s m f) (decode p.now) }
@@ -72,6 +76,7 @@ pub(crate) fn read_branching(c: Core, p: &[u8], stack: &mut [u64; 9]) -> Core
 }
 
 // A branching whose chance is that of an ignition curve at a release rate.
+#[tactic(auto, using(crate::proofs::RecordLaws::refused_as, crate::proofs::RecordLaws::taken_for, faults::proofs::Laws::number_nonzero), unfolding(model::specs::Machine::accepted, model::specs::Machine::with_reading))]
 pub(crate) fn read_curve(c: Core, p: &[u8], stack: &mut [u64; 9]) -> Core
     requires { decode p.now ≡ branching_rec (on_curve (field p.now 1 1) (field p.now 2 4)) }
     ensures { (q s m f : List ℕ) → state result q stack.new s m f ≡ record_read (state c q stack.old s m f) (decode p.now) }
@@ -100,6 +105,7 @@ pub(crate) fn read_outcome(c: Core, p: &[u8], stack: &[u64; 9], kinds: &mut [u64
     }
 }
 
+#[tactic(auto, using(crate::proofs::RecordLaws::refused_as, crate::proofs::RecordLaws::taken_for, faults::proofs::Laws::number_nonzero), unfolding(model::specs::Machine::accepted, model::specs::Machine::with_reading))]
 fn read_closing(c: Core, p: &[u8]) -> Core
     requires { decode p.now ≡ closing_rec (field p.now 1 4) (field p.now 5 8) }
     ensures { (q k s m f : List ℕ) → state result q k s m f ≡ record_read (state c q k s m f) (decode p.now) }

@@ -3,7 +3,7 @@
 
 ghost use Rattle.std.specs.Prelude.{◌≡◌, ◌+◌, ◌-◌};
 ghost use Rattle.numeric.specs.Share.{split_of};
-ghost use Rattle.model.specs.Machine.{core, open_phase, taken, one_record, one_leak, store, packed, above_of, top, leak_stack, branch_stack, leak_branch, branched_branch, outcome_branch, outcome_tally, frequency_of};
+ghost use Rattle.model.specs.Machine.{core, open_phase, taken, one_record, one_leak, packed, above_of, top, leak_stack, branch_stack, leak_branch, branched_branch, outcome_branch, outcome_tally, frequency_of};
 ghost use Rattle.counting.specs.Kinds.{with_kinds};
 
 use state::Core;
@@ -20,17 +20,6 @@ fn pack(frequency: u64, above: u8) -> u64
     }
 }
 
-// A store among the nine pending trees; nothing past them. By index: tried with `get_mut`, and the check did not find the proof.
-#[tactic(auto, unfolding(model::specs::Machine::store, numeric::specs::Choice::if_lt))]
-fn put_tree(stack: &mut [u64; 9], at: u8, tree: u64)
-    ensures { stack.new ≡ store 9 stack.old at tree }
-{
-    let i = at as usize;
-    if i < stack.len() {
-        stack[i] = tree;
-    }
-}
-
 // The next tree, packed; 0 where there is none.
 #[tactic(auto, unfolding(model::specs::Machine::top, numeric::specs::Choice::if_eq, numeric::specs::Choice::if_le))]
 pub fn next_tree(l: &[u64; 9], height: u8) -> u64
@@ -42,25 +31,29 @@ pub fn next_tree(l: &[u64; 9], height: u8) -> u64
     }
 }
 
-#[tactic(auto, unfolding(model::specs::Machine::leak_stack))]
+#[tactic(auto, unfolding(model::specs::Machine::leak_stack, model::specs::Machine::store))]
 pub fn take_leak(c: Core, number: u32, frequency: u64, stack: &mut [u64; 9]) -> Core
     ensures value { result ≡ core (taken c.reading open_phase) (one_leak c.counts number frequency) (leak_branch c.branch frequency) c.tally }
     ensures stack_after { stack.new ≡ leak_stack stack.old frequency }
 {
-    put_tree(stack, 0, pack(frequency, 0));
+    numeric::put(stack, 0, pack(frequency, 0));
     counting::core_leak(c, number, frequency)
 }
 
 // The second branch in the place of the next tree, and the first branch upon it, both under one branching more.
-#[tactic(auto, unfolding(model::specs::Machine::branch_stack))]
+#[tactic(auto, unfolding(model::specs::Machine::branch_stack, model::specs::Machine::store))]
 fn branch_stack(stack: &mut [u64; 9], height: u8, chance: u32)
     ensures { stack.new ≡ branch_stack stack.old height chance }
 {
     let tree = next_tree(stack, height);
     let above = (tree % 16) as u8 + 1;
     let both = numeric::split(tree / 16, chance);
-    put_tree(stack, height.saturating_sub(1), pack(both.second, above));
-    put_tree(stack, height, pack(both.first, above));
+    numeric::put(
+        stack,
+        height.saturating_sub(1) as usize,
+        pack(both.second, above),
+    );
+    numeric::put(stack, height as usize, pack(both.first, above));
 }
 
 pub fn take_branching(c: Core, chance: u32, stack: &mut [u64; 9]) -> Core
