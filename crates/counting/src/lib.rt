@@ -15,6 +15,7 @@ use state::{Core, phase};
 pub use tallies::kinds_of;
 use tallies::{grow_kind, tally_study, tally_with};
 
+// One function for each kind of record: each changes other parts, and docs/PROMISES.md names each.
 pub fn core_opening(c: Core, number: u32) -> Core
     ensures { result ≡ core (taken c.reading open_phase) (one_record c.counts) c.branch (study_tally c.tally number) }
 {

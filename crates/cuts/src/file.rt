@@ -5,7 +5,8 @@ use std::fs::File;
 use std::io;
 use std::rt::Files;
 
-// Reads what a file has to the front of the buffer, and says how many bytes; an error where a read fails, or the buffer is full.
+// Reads what a file has to the front of the buffer, and says how many bytes; an error where a read fails, or the buffer is full. Counted by hand: the library's
+// `read_to_end` needs a heap.
 fn read_whole<R: io::Read>(input: &mut R, buffer: &mut [u8]) -> io::Result<usize>
     ensures { IfOk result (λ n. n ≤ length buffer.new) }
 {

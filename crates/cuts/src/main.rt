@@ -37,6 +37,7 @@ fn byte_by_byte(bytes: &[u8]) -> Taken {
     t
 }
 
+// By the answers and the reports, no `==`: a study's fields are its own.
 fn same(a: Taken, b: Taken) -> bool {
     a.number == b.number && a.place == b.place && reports::same(a.study, b.study)
 }

@@ -152,6 +152,7 @@ fn add_effect(b: Branch, kind: u8, clock: Clock, e: Effect, rows: &mut Rows) -> 
     }
 }
 
+// The place goes on by a record's length while sixteen bytes are read: the library's `chunks` gives no bytes past a record.
 // Takes effects of a run, in an outcome's branch, up to the first that is unsound, judging them as those of a kind whose effects are judged alike. Inlined, as
 // what it calls, so that each call has a loop in which the kind is known.
 #[inline(always)]

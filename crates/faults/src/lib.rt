@@ -19,7 +19,7 @@ pub fn check(holds: bool, why: Refusal) -> Result<(), Refusal>
     if holds { Ok(()) } else { Err(why) }
 }
 
-// A record the order doesn't allow here. Each case returns: one test at the end, of a flag, takes 1 to 2 % more instructions.
+// A record the order doesn't allow here, by the numbers that the definition takes. Each case returns: one test at the end, of a flag, takes 1 to 2 % more instructions.
 #[tactic(auto, unfolding(model::specs::Faults::order_fault, numeric::specs::Choice::if_eq, numeric::specs::Choice::if_lt))]
 pub fn order_fault(records: u32, left: u16, trees: u8, scenarios: u32, k: u8) -> Result<(), Refusal>
     ensures { refusal_in result ≡ order_fault records left trees scenarios k }

@@ -16,7 +16,8 @@ const TOO_LONG: i32 = 36;
 
 const NO_TEXT: i32 = 84;
 
-// What the argument i names, in the lent bytes: its text, or why it cannot be taken; none where there is no such argument. The library opens names that are UTF-8 alone.
+// What the argument i names, in the lent bytes: its text, or why it cannot be taken; none where there is no such argument. The library opens names that are UTF-8
+// alone. Each program has its own loop over its arguments: cuts stops where it cannot print, the others go on.
 pub fn argument<'a>(rt: &impl Env, i: usize, bytes: &'a mut [u8]) -> Option<io::Result<&'a str>>
     ensures { IsArgument result }
 {

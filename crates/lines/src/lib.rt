@@ -91,6 +91,8 @@ impl Line {
     }
 }
 
+// Below, each line from its parts, and no `Display`: docs/PROMISES.md names these functions, and each contract says the line's bytes.
+
 // study S records R leaks F
 #[tactic(auto, using(crate::proofs::LineLaws::line_steps), unfolding(crate::specs::Text::study_line))]
 pub fn study_line(t: Totals) -> Line

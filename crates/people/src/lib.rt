@@ -37,7 +37,7 @@ fn by_probit(constant: u32, q: u32, t: u32) -> u32
     probit::chance(dose(q, t), constant)
 }
 
-// Fire: heat in W/m² for a duration. The longest time that counts and the probit's constant go by the clock.
+// Fire: heat in W/m² for a duration. The longest time that counts and the probit's constant are the clock's, each by itself, as in `fire_death_by`.
 #[tactic(auto, unfolding(crate::specs::Death::fire_death_by, numeric::specs::Choice::if_eq, numeric::specs::Choice::if_le))]
 pub fn fire(longest: u16, constant: u32, setting: u8, q: u32, duration: u16) -> u32
     ensures { result ≡ fire_death_by standard longest constant setting q duration }

@@ -50,7 +50,7 @@ pub fn grow(h: Reading) -> Reading
     }
 }
 
-// A record is refused at its first byte.
+// A record is refused at its first byte, for any number.
 #[tactic(auto, unfolding(model::specs::Machine::refused_with))]
 pub fn refuse(h: Reading, number: u8) -> Reading
     ensures { result ≡ refused_with h number }
@@ -64,7 +64,7 @@ pub fn refuse(h: Reading, number: u8) -> Reading
     }
 }
 
-// The number that a piece of n bytes answers with, from the place before it and the reading after it.
+// The number, which C reads, that a piece of n bytes answers with, from the place before it and the reading after it.
 #[tactic(auto, unfolding(model::specs::Machine::number_after, numeric::specs::Choice::if_eq, numeric::specs::Choice::if_lt))]
 pub fn piece_number(before: u64, n: u64, h: Reading) -> u8
     ensures { result ≡ number_after before n h }

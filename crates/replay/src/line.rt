@@ -1,4 +1,4 @@
-// The parts of a line, each written as it comes.
+// The parts of a line, each written as it comes, and no `println!` of a whole line: standard error says which part cannot be written.
 
 pub(crate) fn text(rt: &(impl Print + Eprint), words: &str) {
     if rt.print(words).is_err() {

@@ -15,7 +15,7 @@ pub use domino::report_domino;
 use state::{Core, Reading, Refusal, Row, TargetReport, Totals, phase};
 use terms::class;
 
-// What a report says no with: a number, and the place that it names.
+// What a report says no with: a number, which is any that a reading may keep, and the place that it names.
 #[derive(Clone, Copy)]
 pub struct Refused {
     pub number: u8,
@@ -67,6 +67,7 @@ pub fn report_totals(c: Core) -> Totals
             study: y.study,
             records: c.counts.records,
             leaks: c.counts.leaks,
+            // by name, as counting's `kinds_of`: neither of these crates uses the other
             kinds: [y.kind0, y.kind1, y.kind2, y.kind3, y.kind4, y.kind5],
             unjudged: y.unjudged,
             targets: c.counts.targets,

@@ -10,7 +10,7 @@ use terms::{Target, class};
 // The class of a place of people, as wide as a target's packed facts.
 const PEOPLE: u64 = class::PEOPLE as u64;
 
-// A target's facts in one number, the lowest bit its mark on the domino list.
+// A target's facts in one number, the lowest bit its mark on the domino list. Functions, no `From`: neither type is of this crate, and docs/PROMISES.md names them.
 #[tactic(auto, unfolding(model::specs::Machine::packed_facts))]
 pub fn pack_facts(f: Target) -> u64
     ensures { result ≡ packed_facts f }

@@ -26,7 +26,7 @@ pub struct Reading {
     pub phase: u32,
     // bytes of the record that has begun
     pub have: u8,
-    // the kept refusal
+    // the kept refusal's number, 0 where there is none: theorem ViewIsWhole and the machine speak of any
     pub number: u8,
 }
 

@@ -80,6 +80,7 @@ fn curve_fault(curve: u8, rate: u32) -> Result<(), Refusal>
     )
 }
 
+// One function for a chance that is given and one for a curve's, and no enum of both: the kind byte has told them apart before.
 #[tactic(auto, unfolding(model::specs::Faults::branching_fault, model::specs::Faults::chance_fault, numeric::specs::Choice::if_lt))]
 fn own_branching(c: Core, chance: u32, stack: &[u64; 9]) -> Result<(), Refusal>
     ensures { refusal_in result ≡ branching_fault (above_of (top stack.now c.branch.height)) (given chance) }

@@ -1,6 +1,7 @@
 // A piece is read into the arrays of a study: the part of a call that every form of a study shares. It stays inside the crate, since the arrays show
 // sums before the end.
 ghost use Rattle.std.specs.Prelude.{◌≡◌, length};
+ghost use Rattle.study.specs.View.{state_of};
 ghost use Rattle.model.specs.Machine.{state, read_all, number_after, place_after};
 
 use crate::tables::Tables;
@@ -17,16 +18,16 @@ pub struct Answer {
 
 // What a piece makes of the parts that go by value, and its answer.
 #[derive(Clone, Copy)]
-pub struct Fed {
+pub(crate) struct Fed {
     pub core: Core,
     pub answer: Answer,
 }
 
-// Reads all bytes, some records or a byte at a turn: the parts that go by value afterwards, and the arrays in place. The totals of the kinds stand in an array of their own in the loop,
-// and are put back at the end.
+// Reads all bytes, at each turn as many as it takes, so that no iterator of the library goes along: the parts that go by value afterwards, and the arrays in
+// place. The totals of the kinds stand in an array of their own in the loop, and are put back at the end.
 pub(crate) fn read_into(c: Core, bytes: &[u8], pending: &mut [u8; 16], tables: &mut Tables) -> Core
     requires { length pending.old ≡ 16 }
-    ensures { state result pending.new tables.new.stack tables.new.rows.sums tables.new.rows.margins tables.new.rows.facts ≡ read_all (state c pending.old tables.old.stack tables.old.rows.sums tables.old.rows.margins tables.old.rows.facts) bytes.now }
+    ensures { state_of result pending.new tables.new ≡ read_all (state_of c pending.old tables.old) bytes.now }
 {
     let mut core = c;
     let mut kinds = counting::kinds_of(core.tally);
@@ -47,7 +48,7 @@ pub(crate) fn feed_into<'a, 'b>(
     tables: &'b mut Tables,
 ) -> Fed
     requires { length pending.old ≡ 16 }
-    ensures { (state result.core pending.new tables.new.stack tables.new.rows.sums tables.new.rows.margins tables.new.rows.facts ≡ read_all (state c pending.old tables.old.stack tables.old.rows.sums tables.old.rows.margins tables.old.rows.facts) bytes.now)
+    ensures { (state_of result.core pending.new tables.new ≡ read_all (state_of c pending.old tables.old) bytes.now)
         × (result.answer.number ≡ number_after c.reading.place (length bytes.now) result.core.reading) × (result.answer.place ≡ place_after result.core.reading) }
 {
     let before = c.reading.place;

@@ -26,7 +26,7 @@ use terms::{class, outcome, setting};
 #[derive(Clone, Copy)]
 pub struct Study {
     core: Core,
-    // the bytes of the record that has begun
+    // the bytes of the record that has begun, `core.reading.have` of them: no Vec, since the desk keeps nothing on a heap
     pending: [u8; 16],
     tables: Tables,
 }

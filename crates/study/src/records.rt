@@ -28,6 +28,7 @@ pub(crate) fn refused(c: Core, why: Refusal) -> Core
     reading::core_reading(c, reading::refuse(c.reading, why.number()))
 }
 
+// Below, one function for a record of each kind: each reads other fields and lends another array, and each contract names its record.
 #[tactic(auto, using(crate::proofs::RecordLaws::first_by_place, crate::proofs::RecordLaws::refused_as, crate::proofs::RecordLaws::fault_by_own, crate::proofs::RecordLaws::taken_for, faults::proofs::Laws::number_nonzero), unfolding(model::specs::Machine::accepted, model::specs::Machine::with_reading, model::specs::Faults::own_fault))]
 fn read_opening(c: Core, p: &[u8]) -> Core
     requires { decode p.now ≡ opening_rec (field p.now 1 4) }

@@ -3,6 +3,7 @@
 ghost use Rattle.std.specs.Prelude.{◌≡◌, true, List, ℕ, ◌+◌, ◌≤◌, length, get_or, replicate};
 ghost use Rattle.numeric.specs.Choice.{if_eq};
 ghost use Rattle.model.specs.Format.{timed_kind};
+ghost use Rattle.study.specs.View.{state_of};
 ghost use Rattle.model.specs.Machine.{most64, open_phase, core, reading, state};
 ghost use Rattle.counting.specs.Kinds.{with_kinds};
 ghost use Rattle.study.specs.Spans.{of_scenario, length_of, after_first, Records};
@@ -94,7 +95,7 @@ fn read_one(
 ) -> Run
     requires { (16 ≤ length p.now) × (of_scenario (get_or p.now 0 0) ≡ true) × (at + length p.now ≤ most64) }
     ensures records { Records p.now result.at }
-    ensures by_index { (q : List ℕ) → state (with_kinds result.core kinds.new) (replicate 16 0) tables.new.stack tables.new.rows.sums tables.new.rows.margins tables.new.rows.facts ≡ after_first (state (with_kinds (core (reading open_phase (length_of p.now) (at + length_of p.now) at 0 0) k b y) kinds.old) q tables.old.stack tables.old.rows.sums tables.old.rows.margins tables.old.rows.facts) p.now result.at }
+    ensures by_index { (q : List ℕ) → state_of (with_kinds result.core kinds.new) (replicate 16 0) tables.new ≡ after_first (state_of (with_kinds (core (reading open_phase (length_of p.now) (at + length_of p.now) at 0 0) k b y) kinds.old) q tables.old) p.now result.at }
 {
     let first = &p[0..16];
     let kind = decoding::kind(first);
@@ -122,12 +123,12 @@ fn read_one(
     read_effects(c, p, &mut tables.rows)
 }
 
-// The records of scenarios that the bytes begin with. The parts that go by value stand each by itself in the loop; the reading that comes in is not
+// The records of scenarios that the bytes begin with, of different lengths. The parts that go by value stand each by itself in the loop, which takes fewer instructions; the reading that comes in is not
 // looked at.
 fn read_from_first(c: Core, bytes: &[u8], tables: &mut Tables, kinds: &mut [u64; 6]) -> Run
     requires { (16 ≤ length bytes.now) × (of_scenario (get_or bytes.now 0 0) ≡ true) }
     ensures records { Records bytes.now result.at }
-    ensures by_index { (q : List ℕ) → state (with_kinds result.core kinds.new) (replicate 16 0) tables.new.stack tables.new.rows.sums tables.new.rows.margins tables.new.rows.facts ≡ after_first (state (with_kinds (core (reading open_phase (length_of bytes.now) (length_of bytes.now) 0 0 0) c.counts c.branch c.tally) kinds.old) q tables.old.stack tables.old.rows.sums tables.old.rows.margins tables.old.rows.facts) bytes.now result.at }
+    ensures by_index { (q : List ℕ) → state_of (with_kinds result.core kinds.new) (replicate 16 0) tables.new ≡ after_first (state_of (with_kinds (core (reading open_phase (length_of bytes.now) (length_of bytes.now) 0 0 0) c.counts c.branch c.tally) kinds.old) q tables.old) bytes.now result.at }
 {
     let mut k = c.counts;
     let mut b = c.branch;
@@ -154,7 +155,7 @@ pub(crate) fn read_scenarios(
 ) -> Run
     requires { (16 ≤ length bytes.now) × (of_scenario (get_or bytes.now 0 0) ≡ true) }
     ensures records { Records bytes.now result.at }
-    ensures by_index { (q : List ℕ) → state (with_kinds result.core kinds.new) (replicate 16 0) tables.new.stack tables.new.rows.sums tables.new.rows.margins tables.new.rows.facts ≡ after_first (state (with_kinds c kinds.old) q tables.old.stack tables.old.rows.sums tables.old.rows.margins tables.old.rows.facts) bytes.now result.at }
+    ensures by_index { (q : List ℕ) → state_of (with_kinds result.core kinds.new) (replicate 16 0) tables.new ≡ after_first (state_of (with_kinds c kinds.old) q tables.old) bytes.now result.at }
 {
     let n = decoding::body_length(decoding::kind(bytes)) + 1;
     let run = read_from_first(c, bytes, tables, kinds);

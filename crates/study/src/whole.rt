@@ -2,6 +2,7 @@
 ghost use Rattle.std.specs.Prelude.{◌≡◌, true, false, List, ℕ, ◌+◌, ◌-◌, ◌<◌, ◌≤◌, length, get_or, take, drop, replicate};
 ghost use Rattle.numeric.specs.Choice.{pick};
 ghost use Rattle.model.specs.Verdict.{decode};
+ghost use Rattle.study.specs.View.{state_of};
 ghost use Rattle.model.specs.Machine.{open_phase, core, reading, state, record_read, cleared, step, read_all};
 ghost use Rattle.counting.specs.Kinds.{with_kinds};
 ghost use Rattle.study.specs.Spans.{Between, Next, length_of, after_first, Records};
@@ -23,6 +24,7 @@ fn next_here(h: Reading, bytes: &[u8]) -> bool
 }
 
 // The record that begins here is entered whole.
+#[tactic(auto, using(model::proofs::CodecLaws::body_most))]
 fn entered(c: Core, bytes: &[u8]) -> Core
     requires { Between c.reading }
     ensures { result ≡ core (reading open_phase (length_of bytes.now) (c.reading.place + length_of bytes.now) c.reading.place 0 0) c.counts c.branch c.tally }
@@ -31,11 +33,12 @@ fn entered(c: Core, bytes: &[u8]) -> Core
     entered_at(c.counts, c.branch, c.tally, c.reading.place, n)
 }
 
+// That sixteen bytes are there stands in six contracts: a type for such bytes would be a slice again after the first record.
 // The record that the bytes begin with, which has been entered; after a record of a scenario also those of scenarios that follow it.
 fn read_some(c: Core, bytes: &[u8], tables: &mut Tables, kinds: &mut [u64; 6]) -> Run
     requires { 16 ≤ length bytes.now }
     ensures records { Records bytes.now result.at }
-    ensures by_index { (q : List ℕ) → state (with_kinds result.core kinds.new) (replicate 16 0) tables.new.stack tables.new.rows.sums tables.new.rows.margins tables.new.rows.facts ≡ after_first (state (with_kinds c kinds.old) q tables.old.stack tables.old.rows.sums tables.old.rows.margins tables.old.rows.facts) bytes.now result.at }
+    ensures by_index { (q : List ℕ) → state_of (with_kinds result.core kinds.new) (replicate 16 0) tables.new ≡ after_first (state_of (with_kinds c kinds.old) q tables.old) bytes.now result.at }
 {
     if of_scenario(decoding::kind(bytes)) {
         return read_scenarios(c, bytes, tables, kinds);
@@ -48,7 +51,7 @@ fn read_some(c: Core, bytes: &[u8], tables: &mut Tables, kinds: &mut [u64; 6]) -
 fn read_records(c: Core, bytes: &[u8], tables: &mut Tables, kinds: &mut [u64; 6]) -> Run
     requires { 16 ≤ length bytes.now }
     ensures records { Records bytes.now result.at }
-    ensures by_index { (q : List ℕ) → state (with_kinds result.core kinds.new) (replicate 16 0) tables.new.stack tables.new.rows.sums tables.new.rows.margins tables.new.rows.facts ≡ after_first (state (with_kinds c kinds.old) q tables.old.stack tables.old.rows.sums tables.old.rows.margins tables.old.rows.facts) bytes.now result.at }
+    ensures by_index { (q : List ℕ) → state_of (with_kinds result.core kinds.new) (replicate 16 0) tables.new ≡ after_first (state_of (with_kinds c kinds.old) q tables.old) bytes.now result.at }
 {
     let mut core = c;
     let mut at: usize = 0;
@@ -105,7 +108,7 @@ pub(crate) fn read_on(
 ) -> Run
     requires { (from < length bytes.now) × (length p.old ≡ 16) }
     ensures from_lt_at { (from < result.at) × (result.at ≤ length bytes.now) }
-    ensures facts_after { state (with_kinds result.core kinds.new) p.new tables.new.stack tables.new.rows.sums tables.new.rows.margins tables.new.rows.facts ≡ read_all (state (with_kinds c kinds.old) p.old tables.old.stack tables.old.rows.sums tables.old.rows.margins tables.old.rows.facts) (take (result.at - from) (drop from bytes.now)) }
+    ensures facts_after { state_of (with_kinds result.core kinds.new) p.new tables.new ≡ read_all (state_of (with_kinds c kinds.old) p.old tables.old) (take (result.at - from) (drop from bytes.now)) }
 {
     let direct = next_here(c.reading, &bytes[from..]);
     let e = enter(direct, c, &bytes[from..], p);

@@ -11,8 +11,8 @@ pub mod unit;
 ghost use Rattle.std.specs.Prelude.{◌≡◌};
 ghost use Rattle.terms.specs.Terms.{clock_of};
 
-// A chance in millionths, and whether a rule judged it: where none did, the chance is 0. The flag beside the chance stays: the theorems on `effect_on` speak of
-// both fields.
+// A chance in millionths, and whether a rule judged it: where none did, the chance is 0. The flag beside the chance stays: the theorems FireJudged and EdgesStand
+// speak of both fields.
 #[derive(Clone, Copy)]
 pub struct Judged {
     pub chance: u32,

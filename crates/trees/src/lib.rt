@@ -48,11 +48,8 @@ fn branch_stack(stack: &mut [u64; 9], height: u8, chance: u32)
     let tree = next_tree(stack, height);
     let above = (tree % 16) as u8 + 1;
     let both = numeric::split(tree / 16, chance);
-    numeric::put(
-        stack,
-        height.saturating_sub(1) as usize,
-        pack(both.second, above),
-    );
+    let below = height.saturating_sub(1) as usize;
+    numeric::put(stack, below, pack(both.second, above));
     numeric::put(stack, height as usize, pack(both.first, above));
 }
 
