@@ -1,5 +1,5 @@
-// Reads each study that an argument names whole, cut in two at every place, and byte by byte, with empty pieces between, and compares every answer: the last piece's number and place, the
-// totals, each target, the domino list. Document 01 has them the same wherever the bytes are cut.
+// Reads each study that an argument names whole, cut in two at every place, and byte by byte, with empty pieces between, and compares every answer: the last
+// piece's number and place, the totals, each target, the domino list. Document 01 has them the same wherever the bytes are cut.
 #![tactic(auto)]
 
 mod file;

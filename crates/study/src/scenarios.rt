@@ -123,8 +123,8 @@ fn read_one(
     read_effects(c, p, &mut tables.rows)
 }
 
-// The records of scenarios that the bytes begin with, of different lengths. The parts that go by value stand each by itself in the loop, which takes fewer instructions; the reading that comes in is not
-// looked at.
+// The records of scenarios that the bytes begin with, of different lengths.
+// The parts that go by value stand each by itself in the loop, which takes fewer instructions; the reading that comes in is not looked at.
 fn read_from_first(c: Core, bytes: &[u8], tables: &mut Tables, kinds: &mut [u64; 6]) -> Run
     requires { (16 ≤ length bytes.now) × (of_scenario (get_or bytes.now 0 0) ≡ true) }
     ensures records { Records bytes.now result.at }
