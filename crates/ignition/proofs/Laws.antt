@@ -3,12 +3,13 @@ use mathlib.Core.Path.{◌≡◌, refl, sym, subst}
 use mathlib.Core.Logic.{◌⊎◌, inl, inr, ⊎_elim}
 use mathlib.Core.Bool.{Bool, true, false}
 use mathlib.Core.List.{List, [], ◌∷◌}
-use Prim.Native.Nat.{ℕ, zero, suc, ◌+◌, ◌-◌, ◌<◌, ◌≤◌, min}
+use Prim.Native.Nat.{ℕ, zero, suc, ◌+◌, ◌-◌, ◌<◌, ◌≤◌}
 use native.Mathlib.Nat.{le_trans, lt_of_le_of_lt, not-suc-le-zero, le_of_suc-le-suc, le_antisymm}
 use native.Mathlib.Decide.{dec_le}
 use native.Mathlib.Omega.{arith}
 use lib.Dec.{T, eqb, leb, ltb, leb→le}
-use lib.ListN.{length, get_or}
+use lib.ListN.{length, get_or, take}
+use Rattle.std.proofs.lemmas.List.{get_or-take}
 use borrow.Author.Tests.{eqb-true, ltb-true, ltb-false}
 use Rattle.std.specs.List.Sorted.{IsPartitionPoint, IsPartitionedBy}
 use Rattle.std.proofs.lemmas.List.Sorted.{IsPartitionedBy-ltb, IsNonDecreasingBy-from_default}
@@ -156,23 +157,27 @@ curves_hold =
 
 -- ---- the lookup
 
--- so many of the rates are below a rate as its column is, which is the last where all are
-pub column_by_count : (rate n : ℕ) → n ≤ 13 → IsPartitionPoint (λ y. ltb y rate ≡ true) (λ y. ltb y rate ≡ false) rates n → min n 12 ≡ column rate
-column_by_count rate n w p = column_is rate (min n 12) (omega arith) (lo (dec_le n 0)) (hi (dec_le 12 n))
+-- the rates but the last
+abbrev pub all_but_last : List ℕ
+all_but_last = take 12 rates
+
+-- so many of these are below a rate as its column is
+pub column_by_count : (rate n : ℕ) → n ≤ 12 → IsPartitionPoint (λ y. ltb y rate ≡ true) (λ y. ltb y rate ≡ false) all_but_last n → n ≡ column rate
+column_by_count rate n w p = column_is rate n (omega arith) (lo (dec_le n 0)) (hi (dec_le 12 n))
   where
     below : (k : ℕ) → k < n → get_or rates k 0 < rate
-    below k h = ltb-true _ _ (p.0 k 0 (omega arith) h)
+    below k h = subst (λ (x : ℕ). x < rate) (get_or-take 12 rates k 0 (omega arith)) (ltb-true _ _ (p.0 k 0 (omega arith) h))
 
-    lo : Dec (n ≤ 0) → (min n 12 ≡ 0) ⊎ (get_or rates (min n 12 - 1) 0 < rate)
+    lo : Dec (n ≤ 0) → (n ≡ 0) ⊎ (get_or rates (n - 1) 0 < rate)
     lo (yes h) = inl (omega arith)
     lo (no h) = inr (below _ (omega arith))
 
-    hi : Dec (12 ≤ n) → (min n 12 ≡ 12) ⊎ (rate ≤ get_or rates (min n 12) 0)
+    hi : Dec (12 ≤ n) → (n ≡ 12) ⊎ (rate ≤ get_or rates n 0)
     hi (yes h) = inl (omega arith)
-    hi (no h) = let e : min n 12 ≡ n = omega arith in rw e (inr (ltb-false _ _ (p.1 n 0 (omega arith) (omega arith))))
+    hi (no h) = inr (subst (λ (x : ℕ). rate ≤ x) (get_or-take 12 rates n 0 (omega arith)) (ltb-false _ _ (p.1 n 0 (omega arith) (omega arith))))
 
-pub rates_parted : (rate : ℕ) → IsPartitionedBy (λ y. ltb y rate) rates
-rates_parted rate = IsPartitionedBy-ltb (λ y. y) rates rate (IsNonDecreasingBy-from_default (λ y. y) rates 0 (rising rates tt))
+pub rates_parted : (rate : ℕ) → IsPartitionedBy (λ y. ltb y rate) all_but_last
+rates_parted rate = IsPartitionedBy-ltb (λ y. y) all_but_last rate (IsNonDecreasingBy-from_default (λ y. y) all_but_last 0 (rising all_but_last tt))
 
 -- a curve's chance has its row and its column
 pub curve_at : (curve rate j : ℕ) → 1 ≤ curve → j ≡ column rate → get_or (get_or curves (curve - 1) []) j 0 ≡ ignition curve rate

@@ -48,17 +48,17 @@ static CURVES: [[u32; 13]; 13] = [
     ],
 ];
 
-// The rates of the columns, in tenths of a gram per second.
-static RATES: [u32; 13] = [
+// The rates of the columns but the last, in tenths of a gram per second: all rates above these have the last column.
+static RATES: [u32; 12] = [
     1_000, 2_000, 5_000, 10_000, 20_000, 50_000, 100_000, 200_000, 500_000, 1_000_000, 2_000_000,
-    5_000_000, 10_000_000,
+    5_000_000,
 ];
 
 // The place of the least tabulated rate that is not below a rate; the last above them all.
 fn column_of(rate: u32) -> usize
     ensures { (result ≡ column rate) × (result < 13) }
 {
-    RATES.partition_point(|tabulated| *tabulated < rate).min(12)
+    RATES.partition_point(|tabulated| *tabulated < rate)
 }
 
 // The chance of a curve from 1 to 13 at a rate; 0 of any other curve.

@@ -1,7 +1,6 @@
 -- For the proofs. A study's struct as a state of the machine, and back. Assumes nothing.
-use Rattle.std.specs.Prelude.{◌≡◌}
+use Rattle.std.specs.Prelude.{◌≡◌, List, ℕ}
 use Rattle.model.specs.Machine.{State, state}
-use Rattle.std.specs.Prelude.{List, ℕ}
 use Rattle.state.specs.declared.Core.{Core}
 use Rattle.study.specs.declared.Study.{Study}
 use Rattle.study.specs.declared.tables.Tables.{Tables}
@@ -11,7 +10,7 @@ abbrev pub state_of : Core → List ℕ → Tables → State
 state_of c p t = state c p t.stack t.rows.sums t.rows.margins t.rows.facts
 
 abbrev pub view : Study → State
-view s = state s.core s.pending s.tables.stack s.tables.rows.sums s.tables.rows.margins s.tables.rows.facts
+view s = state_of s.core s.pending s.tables
 
 abbrev pub unview : State → Study
 unview s = record {
