@@ -1,7 +1,7 @@
 -- A stream read piece by piece. Assumes nothing.
 use Rattle.std.proofs.Common.{◌≡◌, refl, sym, ap, ◌∙◌, subst, Option, None, Some, List, [], ◌∷◌, ◌++◌, append_assoc, append-nil, ℕ, ◌+◌, ◌<◌, ◌≤◌, length, take, drop, get_or, length-take, length-take-le, arith}
 use Rattle.std.proofs.Math.Seq.{take-append_seam}
-use Rattle.std.proofs.lemmas.List.{take_more}
+use Rattle.std.proofs.lemmas.List.{take_more, length-append}
 use Rattle.std.proofs.Common.{take_all}
 use Rattle.std.proofs.lemmas.List.Folds.{concat-append}
 use Rattle.std.specs.Prelude.{IfSome}
@@ -22,10 +22,11 @@ use Rattle.study.specs.Runs.{Called}
 use Rattle.printing.specs.Prints.{TakenAfter, nothing, last}
 
 -- the study has read what the stream has lost
-pub record ReadSoFar (before now : Option (List ℕ)) (t : Taken) : Type 0 where
+pub record ReadSoFar (turns : ℕ) (before now : Option (List ℕ)) (t : Taken) : Type 0 where
   pub bytes : List ℕ
   pub taken : TakenAfter bytes t
   pub lost : Consumes before now bytes
+  pub each : turns ≤ length bytes
 
 -- a call more at the end of a run
 run_more : {s u v : Study} {cs : List Call} {xs : List Answer} {c : Call} {a : Answer} → Run (Frame.Called view) s cs xs u → Frame.Called view u c a v
@@ -68,25 +69,36 @@ pub some_bytes : (buffer : List ℕ) (n : ℕ) → n ≤ length buffer → (n �
 some_bytes buffer n h z = rw (length-take-le n buffer h) (omega arith)
 
 -- before the first read
-pub nothing_read : (k : Option (List ℕ)) (t : Taken) → view t.study ≡ fresh → t.number ≡ 0 → ReadSoFar k k t
-nothing_read k t f z = record { bytes = []; taken = nothing f z; lost = consumed_none k }
+pub nothing_read : (k : Option (List ℕ)) (t : Taken) → view t.study ≡ fresh → t.number ≡ 0 → ReadSoFar 0 k k t
+nothing_read k t f z = record { bytes = []; taken = nothing f z; lost = consumed_none k; each = omega arith }
 
 -- after a read of some bytes, which a piece took
-pub more_read : (a b c : Option (List ℕ)) (x : List ℕ) (t u : Taken) → ReadSoFar a b t → Consumes b c x → 0 < length x
-    → Called t.study (piece x) (took_piece u.number u.place) u.study → ReadSoFar a c u
-more_read a b c x t u r q h k =
-    record { bytes = r.bytes ++ x; taken = taken_more r.bytes x t u r.taken h k; lost = consumed_more a b c r.bytes x r.lost q }
+pub more_read : (n : ℕ) (a b c : Option (List ℕ)) (x : List ℕ) (t u : Taken) → ReadSoFar n a b t → Consumes b c x → 0 < length x
+    → Called t.study (piece x) (took_piece u.number u.place) u.study → ReadSoFar (n + 1) a c u
+more_read n a b c x t u r q h k =
+    record {
+      bytes = r.bytes ++ x;
+      taken = taken_more r.bytes x t u r.taken h k;
+      lost = consumed_more a b c r.bytes x r.lost q;
+      each = omega (arith, length-append r.bytes x, r.each);
+    }
 
 -- after a read of none, at the end
-pub all_read : (a b c : Option (List ℕ)) (x : List ℕ) (t : Taken) → ReadSoFar a b t → Consumes b c x → x ≡ [] → IsAtEnd c → IfSome a (λ l. TakenAfter l t)
-all_read None b c x t r q e w = tt
-all_read (Some xs) b c x t r q e w = go c (consumed_more (Some xs) b c r.bytes x r.lost q) w
+pub all_read : (n : ℕ) (a b c : Option (List ℕ)) (x : List ℕ) (t : Taken) → ReadSoFar n a b t → Consumes b c x → x ≡ [] → IsAtEnd c → IfSome a (λ l. TakenAfter l t)
+all_read n None b c x t r q e w = tt
+all_read n (Some xs) b c x t r q e w = go c (consumed_more (Some xs) b c r.bytes x r.lost q) w
   where
     go : (c : Option (List ℕ)) → Consumes (Some xs) c (r.bytes ++ x) → IsAtEnd c → TakenAfter xs t
     go None p z = absurd p
     go (Some zs) p z =
         let f : xs ≡ r.bytes = p ∙ ap (λ (l : List ℕ). (r.bytes ++ x) ++ l) z ∙ append-nil (r.bytes ++ x) ∙ ap (λ (l : List ℕ). r.bytes ++ l) e ∙ append-nil r.bytes in
         subst (λ (l : List ℕ). TakenAfter l t) (sym f) r.taken
+
+-- after so many reads of some bytes the stream had as many
+pub long_read : (m n : ℕ) (a b : Option (List ℕ)) (t : Taken) → m ≤ n → ReadSoFar n a b t → IfSome a (λ l. m ≤ length l)
+long_read m n None b t h r = tt
+long_read m n (Some xs) None t h r = absurd r.lost
+long_read m n (Some xs) (Some ys) t h r = omega (arith, ap (λ (l : List ℕ). length l) r.lost, length-append r.bytes ys, r.each)
 
 -- ---- the bytes that a writer has gained
 
@@ -120,6 +132,6 @@ line_put line n out before p q e f =
     rw (← a, ← b) (take-append_seam (take line.len line.text) _)
 
 -- what the code of `read_study` asks, and that of `write_report`
-pub ruleset read_steps = (nothing_read, more_read, all_read, some_bytes)
+pub ruleset read_steps = (nothing_read, more_read, all_read, long_read, some_bytes)
 
 pub ruleset write_steps = (appended_none, take_all)

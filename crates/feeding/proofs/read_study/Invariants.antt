@@ -4,4 +4,4 @@ use Rattle.feeding.proofs.StreamLaws.{ReadSoFar}
 use Rattle.feeding.proofs.read_study.Given as goal
 
 abbrev pub invariant-loop : goal.invariant-loop
-invariant-loop g l = (0 < length l.buffer) × ReadSoFar (g.R.Read.remaining l.fn.input) (g.R.Read.remaining l.input) l.taken
+invariant-loop g l = (0 < length l.buffer) × ReadSoFar l.counter (g.R.Read.remaining l.fn.input) (g.R.Read.remaining l.input) l.taken
