@@ -10,7 +10,7 @@ ghost use Rattle.effects.specs.Judging.{JudgedAlike};
 ghost use Rattle.effects.specs.Steps.{Added};
 
 use state::{Branch, MOST_TARGETS, Rows, record};
-use terms::{Clock, outcome, unit};
+use terms::{Clock, class, outcome, unit};
 
 // How many effects were taken and how many bytes they have, the least target that the next one may name, and the effects of the study so far that no
 // rule judged.
@@ -139,6 +139,10 @@ fn add_effect(b: Branch, kind: u8, clock: Clock, e: Effect, rows: &mut Rows) -> 
     let facts = rows.facts[i];
     rows.margins[i] = rows::margin_after(rows.margins[i], b.above);
     let target = rows::unpack_facts(facts);
+    // a flash fire harms people alone: the class says so before a share is asked for
+    if kind == outcome::FLASH_FIRE && target.class != class::PEOPLE {
+        return 0;
+    }
     match vulnerability::effect(clock, target, kind, e.intensity, e.duration) {
         Some(chance) => {
             rows.sums[i] = rows::sum_after(rows.sums[i], b.frequency, chance);

@@ -131,7 +131,7 @@ line_put line n out before p q e f =
     let b : take line.len line.text ++ drop (length (take line.len line.text)) before ≡ out = le_case _ _ _ _ h refl ∙ sym q in
     rw (← a, ← b) (take-append_seam (take line.len line.text) _)
 
--- what the code of `read_study` asks, and that of `write_report`
+-- what the code of `read_pieces` asks, and that of `write_report`
 pub ruleset read_steps = (nothing_read, more_read, all_read, long_read, some_bytes)
 
 pub ruleset write_steps = (appended_none, take_all)

@@ -4,11 +4,24 @@
 use std::io;
 use terms::{Target, class, outcome, setting, unit};
 
+// A row: its name, its numbers and a word on them, each part written as it comes.
+fn row(rt: &impl Print, name: &str, numbers: &[u64], word: &str) -> io::Result<()> {
+    rt.print(name)?;
+    for n in numbers {
+        print!(rt; " {n}")?;
+    }
+    if !word.is_empty() {
+        rt.print(word)?;
+    }
+    rt.print("\n")
+}
+
 // A frequency and the chance of the first branch; both branches.
 fn branches(rt: &impl Print) -> io::Result<()> {
     for (frequency, chance) in [(1_u64, 500_000_u32), (10_000_000_000_000, 999_999)] {
         let s = numeric::split(frequency, chance);
-        println!(rt; "branches {frequency} {chance} {} {}", s.first, s.second)?;
+        let numbers = [frequency, chance as u64, s.first, s.second];
+        row(rt, "branches", &numbers, "")?;
     }
     Ok(())
 }
@@ -16,7 +29,7 @@ fn branches(rt: &impl Print) -> io::Result<()> {
 // n; L(n).
 fn logarithms(rt: &impl Print) -> io::Result<()> {
     for n in [1_u32, 2, 3] {
-        println!(rt; "logarithm {n} {}", log2::l(n))?;
+        row(rt, "logarithm", &[n as u64, log2::l(n) as u64], "")?;
     }
     Ok(())
 }
@@ -51,7 +64,14 @@ fn fires(rt: &impl Print) -> io::Result<()> {
     ];
     for (setting, q, duration) in rows {
         let chance = vulnerability::fire(clock, place_of_people(setting), q, duration);
-        println!(rt; "people {kind} {setting} {q} {duration} {chance}")?;
+        let numbers = [
+            kind as u64,
+            setting as u64,
+            q as u64,
+            duration as u64,
+            chance as u64,
+        ];
+        row(rt, "people", &numbers, "")?;
     }
     Ok(())
 }
@@ -65,7 +85,8 @@ fn deaths(rt: &impl Print) -> io::Result<()> {
         (setting::INDOORS, 30_000),
     ] {
         let chance = vulnerability::blast(place_of_people(setting), pa);
-        println!(rt; "people {kind} {setting} {pa} 0 {chance}")?;
+        let numbers = [kind as u64, setting as u64, pa as u64, 0, chance as u64];
+        row(rt, "people", &numbers, "")?;
     }
     Ok(())
 }
@@ -79,7 +100,12 @@ fn blasts(rt: &impl Print, rows: &[(u8, u32)]) -> io::Result<()> {
         } else {
             ""
         };
-        println!(rt; "equipment {class} {pa} {chance}{listed}")?;
+        row(
+            rt,
+            "equipment",
+            &[*class as u64, *pa as u64, chance as u64],
+            listed,
+        )?;
     }
     Ok(())
 }
@@ -112,7 +138,8 @@ fn spheres(rt: &impl Print) -> io::Result<()> {
         } else {
             " unjudged"
         };
-        println!(rt; "sphere {volume} {q} {duration} {chance}{judged}")?;
+        let numbers = [volume as u64, q as u64, duration as u64, chance as u64];
+        row(rt, "sphere", &numbers, judged)?;
     }
     Ok(())
 }
@@ -129,7 +156,7 @@ fn probits(rt: &impl Print) -> io::Result<()> {
         7_879_999,
         7_880_000,
     ] {
-        println!(rt; "probit {y} {}", probit::chance(y, 0))?;
+        row(rt, "probit", &[y, probit::chance(y, 0) as u64], "")?;
     }
     Ok(())
 }
@@ -154,7 +181,14 @@ fn tenths(rt: &impl Print) -> io::Result<()> {
     ];
     for (class, volume, q, duration) in rows {
         let chance = vulnerability::fire(clock, target(class, volume), q, duration);
-        println!(rt; "tenths {class} {volume} {q} {duration} {chance}")?;
+        let numbers = [
+            class as u64,
+            volume as u64,
+            q as u64,
+            duration as u64,
+            chance as u64,
+        ];
+        row(rt, "tenths", &numbers, "")?;
     }
     Ok(())
 }

@@ -20,20 +20,29 @@ pub(crate) enum CallError {
     Unread,
 }
 
-// A list that ends inside a call has a bad one.
 impl From<io::Error> for CallError {
-    fn from(why: io::Error) -> CallError {
-        match why.kind() {
-            io::ErrorKind::UnexpectedEof => CallError::Bad,
-            _ => CallError::Unread,
-        }
+    fn from(_: io::Error) -> CallError {
+        CallError::Unread
     }
+}
+
+// Fills the bytes; a list that ends inside a call has a bad one. Read by read, no `read_exact`: a read that is interrupted fails here as any other does.
+fn fill<R: io::Read>(list: &mut R, bytes: &mut [u8]) -> Result<(), CallError> {
+    let mut n = 0;
+    while n < bytes.len() {
+        let k = list.read(&mut bytes[n..])?;
+        if k == 0 {
+            return Err(CallError::Bad);
+        }
+        n += k;
+    }
+    Ok(())
 }
 
 // A length or a number: two bytes, most significant first.
 fn number<R: io::Read>(list: &mut R) -> Result<u16, CallError> {
     let mut two = [0u8; 2];
-    list.read_exact(&mut two)?;
+    fill(list, &mut two)?;
     Ok(u16::from_be_bytes(two))
 }
 
@@ -44,7 +53,7 @@ fn piece<'a, R: io::Read>(list: &mut R, bytes: &'a mut [u8]) -> Result<Call<'a>,
         return Err(CallError::Bad);
     }
     let read = &mut bytes[..n];
-    list.read_exact(read)?;
+    fill(list, read)?;
     Ok(Call::Piece(read))
 }
 

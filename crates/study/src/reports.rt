@@ -37,6 +37,8 @@ impl Study {
     pub fn domino(self, list: &mut [u16]) -> DominoReport
         ensures { Called self (domino list.old) (gave_domino result list.new) self }
     {
-        reporting::report_domino(self.core, &self.tables.rows.facts, list)
+        // the facts alone are copied: lent from a study by value, all of its tables would be
+        let facts = self.tables.rows.facts;
+        reporting::report_domino(self.core, &facts, list)
     }
 }

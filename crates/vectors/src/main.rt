@@ -13,7 +13,7 @@ fn not_read(rt: &(impl Print + Eprint), name: &str, why: io::Error) {
 
 // Prints the report of the study in a file, as far as it can be written.
 fn print_file<R: io::Read>(rt: &(impl Print + Eprint), file: &mut R, name: &str) {
-    match feeding::read_study(file) {
+    match feeding::read_small_study(file) {
         Ok(Some(taken)) => {
             if feeding::write_report(&mut io::writer(rt), taken).is_err() {
                 let _ = eprintln!(rt; "a report could not be written");

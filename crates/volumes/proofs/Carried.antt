@@ -73,20 +73,24 @@ root_by_halves volume z = go (dec_le volume 10000)
 pub volumes_parted : (volume : ℕ) → IsPartitionedBy (λ y. leb y volume) least_volumes
 volumes_parted volume = IsPartitionedBy-leb (λ y. y) least_volumes volume (IsNonDecreasingBy-from_default (λ y. y) least_volumes 0 (rising least_volumes tt))
 
-pub root_by_count : (volume n : ℕ) → 0 < volume → n ≤ 343 → IsPartitionPoint (λ y. leb y volume ≡ true) (λ y. leb y volume ≡ false) least_volumes n → 999 + n ≡ root_of volume
-root_by_count volume n z w p = go (dec_le volume 10000) (dec_le 1 n) (dec_le 343 n)
+pub halved_by_count : (volume n : ℕ) → n ≤ 343 → IsPartitionPoint (λ y. leb y volume ≡ true) (λ y. leb y volume ≡ false) least_volumes n → n - 1 ≡ halved volume 9 0 256
+halved_by_count volume n w p = go (dec_le n s) (dec_le n (s + 1)) (found volume).low (found volume).high
   where
-    low : 1 ≤ n → get_or least_volumes (n - 1) 0 ≤ volume
-    low h = leb-true _ _ (p.0 (n - 1) 0 (omega arith) (omega arith))
+    s : ℕ
+    s = halved volume 9 0 256
+
+    within : s < 343
+    within = (found volume).there
+
+    low : (k : ℕ) → k < n → get_or least_volumes k 0 ≤ volume
+    low k h = leb-true _ _ (p.0 k 0 (omega arith) h)
 
     high : (k : ℕ) → n ≤ k → k < 343 → volume < get_or least_volumes k 0
     high k h l = leb-false _ _ (p.1 k 0 h l)
 
-    next : 1 ≤ n → Dec (343 ≤ n) → (n - 1 ≡ 342) ⊎ (volume < get_or least_volumes (n - 1 + 1) 0)
-    next h (yes e) = inl (omega arith)
-    next h (no e) = let s : n - 1 + 1 ≡ n = omega arith in rw s (inr (high n (omega arith) (omega arith)))
-
-    go : Dec (volume ≤ 10000) → Dec (1 ≤ n) → Dec (343 ≤ n) → 999 + n ≡ root_of volume
-    go (yes h) (yes o) d = omega (arith, o, root_found least_volumes volume (n - 1) right_volumes z h (omega arith) (inr (low o)) (next o d))
-    go (no h) (yes o) d = omega (arith, o, root_beyond least_volumes volume (n - 1) right_volumes (omega arith) (omega arith) (next o d))
-    go d (no o) e = let f : volume < get_or least_volumes 0 0 = high 0 (omega arith) (omega arith) in let x : ⊥ = omega arith in absurd x
+    go : Dec (n ≤ s) → Dec (n ≤ s + 1) → (s ≡ 0) ⊎ (get_or least_volumes s 0 ≤ volume) → (343 ≤ s + 1) ⊎ (volume < get_or least_volumes (s + 1) 0) → n - 1 ≡ s
+    go (yes a) d (inl e) h = omega arith
+    go (yes a) d (inr e) h = let x : ⊥ = omega (arith, high s a within) in absurd x
+    go (no a) (yes b) l h = omega arith
+    go (no a) (no b) l (inl e) = omega arith
+    go (no a) (no b) l (inr e) = let x : ⊥ = omega (arith, low (s + 1) (omega arith)) in absurd x

@@ -1,8 +1,9 @@
 // The root of a volume, by a table of least volumes (02, request P1).
 #![tactic(auto)]
 
-ghost use Rattle.std.specs.Prelude.{◌≡◌, ◌≤◌};
+ghost use Rattle.std.specs.Prelude.{◌≡◌, ◌<◌, ◌≤◌};
 ghost use Rattle.volumes.specs.Root.{root_of};
+ghost use Rattle.volumes.specs.Tables.{halved};
 
 // For each step k from 0 to 342 the least volume, in m³, whose root is at least 1000 + k.
 static LEAST_VOLUMES: [u32; 343] = [
@@ -25,8 +26,17 @@ static LEAST_VOLUMES: [u32; 343] = [
     8150, 8343, 8540, 8742, 8949, 9160, 9377, 9598, 9824,
 ];
 
+// How many steps above 1000 a root is: the last whose least volume is at most the given one, found as by halves.
+fn steps(volume: u32) -> usize
+    ensures { (result ≡ halved volume 9 0 256) × (result < 343) }
+{
+    LEAST_VOLUMES
+        .partition_point(|least| *least <= volume)
+        .saturating_sub(1)
+}
+
 // K of a volume in m³, for every volume: 0 for 0, and that of 10,000 above it.
-#[tactic(auto, using(crate::proofs::Laws::root_zero))]
+#[tactic(auto, using(crate::proofs::Laws::root_zero, crate::proofs::Carried::root_by_halves))]
 pub fn root(volume: u32) -> u32
     ensures value { result ≡ root_of volume }
     ensures within { result ≤ 1342 }
@@ -34,5 +44,5 @@ pub fn root(volume: u32) -> u32
     if volume == 0 {
         return 0;
     }
-    999 + LEAST_VOLUMES.partition_point(|least| *least <= volume) as u32
+    1_000 + steps(volume) as u32
 }

@@ -4,13 +4,20 @@ use lib.ListN.{set}
 use lib.Seq.{set-get_or}
 use borrow.Author.Rules.{rules}
 use Rattle.numeric.specs.Choice.{pick}
+use Rattle.terms.specs.Scales.{standard}
 use Rattle.terms.specs.declared.Judged.{Judged}
-use Rattle.vulnerability.proofs.FormLaws.{people_judged}
+use Rattle.vulnerability.proofs.FormLaws.{people_judged, flash_spares}
 use Rattle.effects.proofs.RowLaws.{added, spared, past_added}
 use Rattle.effects.proofs.add_effect.Goals as goal
 
 pub returns-then-e-ge-MOST_TARGETS : goal.returns-then-e-ge-MOST_TARGETS
 returns-then-e-ge-MOST_TARGETS c = past_added _ (people_judged _ _) _ _ _ _ _ _ _ c.if-e-ge-MOST_TARGETS.true
+
+pub returns-then-target-ne-PEOPLE : goal.returns-then-target-ne-PEOPLE
+returns-then-target-ne-PEOPLE c =
+    let j = flash_spares standard c.args.clock c.unpack_facts-target.result c.args.kind c.args.e.intensity c.args.e.duration (search rules) (search rules) ∙ c.requires _ _ _ _ in
+    spared _ _ _ _ _ _ _ _ c.if-e-ge-MOST_TARGETS.false c.unpack_facts-target.ensures c.margin_after.ensures
+    (ap (λ (x : Judged). x.chance) j) (ap (λ (x : Judged). pick x.judged 0 1) j) (search rules)
 
 pub returns-in-None : goal.returns-in-None
 returns-in-None c =

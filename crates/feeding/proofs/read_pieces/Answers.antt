@@ -1,10 +1,10 @@
--- `feeding::read_study` meets its contract: the study has read what the stream has lost, a byte at least at each turn. Assumes nothing.
+-- `feeding::read_pieces` meets its contract: the study has read what the stream has lost, a byte at least at each turn. Assumes nothing.
 use Rattle.std.proofs.Common.{◌<◌, ◌-◌, ◌^◌, length, refl, rules}
 use Rattle.feeding.proofs.StreamLaws.{nothing_read, more_read, long_read, some_bytes}
-use Rattle.feeding.proofs.read_study.Goals as goal
+use Rattle.feeding.proofs.read_pieces.Goals as goal
 
 pub loop-init : goal.loop-init
-loop-init g c = (search rules, nothing_read _ _ c.fresh.ensures refl)
+loop-init g c = (c.requires, nothing_read _ _ c.fresh.ensures refl)
 
 pub loop-preserved : goal.loop-preserved
 loop-preserved g c =
