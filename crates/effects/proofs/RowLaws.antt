@@ -1,5 +1,5 @@
 -- The figures of a target after an effect, and a store of what stands at a place already. Assumes nothing.
-use mathlib.Core.Path.{◌≡◌, refl, sym, ◌∙◌}
+use mathlib.Core.Path.{◌≡◌, refl, sym, ◌∙◌, ap}
 use mathlib.Core.Bool.{true}
 use mathlib.Core.List.{List}
 use Prim.Native.Nat.{ℕ, ◌+◌, ◌<◌, ◌≤◌}
@@ -7,7 +7,7 @@ use lib.ListN.{get_or, set}
 use lib.Seq.{set-get_or}
 use Rattle.numeric.specs.Choice.{pick}
 use Rattle.numeric.specs.Share.{share_of}
-use Rattle.numeric.proofs.ChoiceLaws.{lt_both, lt_case, ge_case}
+use Rattle.numeric.proofs.ChoiceLaws.{lt_both, lt_case, ge_case, eq_case}
 use Rattle.state.specs.declared.Branch.{Branch}
 use Rattle.terms.specs.declared.Judged.{Judged}
 use Rattle.terms.specs.declared.Target.{Target}
@@ -41,13 +41,13 @@ module _ (judge : Judge) (b : Branch) (i q d : ℕ) (s m f : List ℕ) (row : i 
   unfolding store
   stored l e = lt_case _ _ _ _ row (rw e refl)
 
-  pub added : {c missed y : ℕ} {f' : List ℕ} → c ≡ here.chance → missed ≡ pick here.judged 0 1 → y ≡ up_to most64 (get_or s i 0) (share_of b.frequency c) → f' ≡ set f i (marked_facts (get_or f i 0) c b.leak)
-      → Added judge b i q d s m f missed (set s i y) (set m i x) f'
+  pub added : {c missed : ℕ} {s' f' : List ℕ} → c ≡ here.chance → missed ≡ pick here.judged 0 1 → s' ≡ set s i (up_to most64 (get_or s i 0) (share_of b.frequency c)) → f' ≡ set f i (marked_facts (get_or f i 0) c b.leak)
+      → Added judge b i q d s m f missed s' (set m i x) f'
   unfolding row_after
   added e j es ef =
       record {
         judging = rw (← here_is) j;
-        sums = rw (← here_is, ← e) (stored s es);
+        sums = rw (← here_is, ← e) (es ∙ stored s refl);
         margins = stored m grown;
         facts = rw (← here_is, ← e) (ef ∙ stored f refl);
       }
@@ -62,6 +62,11 @@ module _ (judge : Judge) (b : Branch) (i q d : ℕ) (s m f : List ℕ) (row : i 
         margins = stored m grown;
         facts = rw (← here_is, ← e) (store_same 256 _ _ _ (zero_facts (row_of s m f i) b 0 refl));
       }
+
+-- a place of people is not marked
+pub people_unmarked : (f : List ℕ) (i c leak : ℕ) {u : Target} → u ≡ unpacked_facts (get_or f i 0) → u.class ≡ 0 → f ≡ set f i (marked_facts (get_or f i 0) c leak)
+unfolding unpacked_facts marked_facts
+people_unmarked f i c leak known z = rw (← eq_case _ _ _ _ (ap (λ (t : Target). t.class) (sym known) ∙ z) refl) (sym (set-get_or f i 0))
 
 -- a target that has none counts as a place of people, on which every effect is judged
 abbrev pub JudgesPeople : Judge → Type 0

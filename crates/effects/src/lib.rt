@@ -1,7 +1,11 @@
 // The effects of an outcome, taken one after the other while none has a fault.
 #![tactic(auto)]
 
-ghost use Rattle.std.specs.Prelude.{◌≡◌, true, false, ℕ, ◌-◌, ◌/◌, ◌≤◌, min, length, get_or, MatchOption};
+ghost use Rattle.std.specs.Prelude.{◌≡◌, true, false, ℕ, ◌-◌, ◌/◌, ◌<◌, ◌≤◌, min, length, get_or, MatchOption};
+ghost use lib.ListN.{set};
+ghost use Rattle.numeric.specs.Share.{share_of};
+ghost use Rattle.model.specs.Bounds.{most_targets};
+ghost use Rattle.model.specs.Machine.{up_to, most64};
 ghost use Rattle.vulnerability.specs.Effect.{effect_on};
 ghost use Rattle.model.specs.Verdict.{field};
 ghost use Rattle.effects.specs.Effects.{figures, offset, after_effects, sound, taken_of};
@@ -125,8 +129,18 @@ fn sound_effect(record_kind: u8, targets: u16, kind: u8, next: u32, p: &[u8]) ->
     }
 }
 
+// The sum of a target grows by the share of the outcome's frequency that a chance takes.
+#[inline(always)]
+fn add_share(b: Branch, i: usize, chance: u32, sums: &mut [u64; 256])
+    requires { i < most_targets }
+    ensures { sums.new ≡ set sums.old i (up_to most64 (get_or sums.old i 0) (share_of b.frequency chance)) }
+{
+    sums[i] = rows::sum_after(sums[i], b.frequency, chance);
+}
+
 // An effect on a target: its margin grows, and its sum and its mark go by the chance that a rule gives. How many effects no rule judged, 0 or 1. Of the
-// declared targets at most MOST_TARGETS have a row; the others count as places of people, and nothing of them is kept.
+// declared targets at most MOST_TARGETS have a row; the others count as places of people, and nothing of them is kept. People are told apart first: the other
+// classes and the domino list are not asked for on their way.
 #[inline(always)]
 fn add_effect(b: Branch, kind: u8, clock: Clock, e: Effect, rows: &mut Rows) -> u32
     requires { JudgedAlike kind b.kind }
@@ -136,16 +150,22 @@ fn add_effect(b: Branch, kind: u8, clock: Clock, e: Effect, rows: &mut Rows) -> 
         return 0;
     }
     let i = e.target as usize;
-    let facts = rows.facts[i];
     rows.margins[i] = rows::margin_after(rows.margins[i], b.above);
+    let facts = rows.facts[i];
     let target = rows::unpack_facts(facts);
-    // a flash fire harms people alone: the class says so before a share is asked for
-    if kind == outcome::FLASH_FIRE && target.class != class::PEOPLE {
+    // every effect on people is judged, and no place of people is on the domino list
+    if target.class == class::PEOPLE {
+        let chance = vulnerability::effect(clock, target, kind, e.intensity, e.duration);
+        add_share(b, i, chance.unwrap_or(0), &mut rows.sums);
+        return 0;
+    }
+    // a flash fire harms people alone
+    if kind == outcome::FLASH_FIRE {
         return 0;
     }
     match vulnerability::effect(clock, target, kind, e.intensity, e.duration) {
         Some(chance) => {
-            rows.sums[i] = rows::sum_after(rows.sums[i], b.frequency, chance);
+            add_share(b, i, chance, &mut rows.sums);
             let marked = rows::mark(facts, chance, b.leak);
             if marked != facts {
                 rows.facts[i] = marked;

@@ -69,8 +69,9 @@ pub fn blast(class: u8, pa: u32) -> u32
     }
 }
 
-// The chance by the probit of a fire.
+// The chance by the probit of a fire. Called, not inlined, as that of people.
 #[tactic(auto, unfolding(crate::specs::Damage::heat_probit_by))]
+#[inline(never)]
 fn heat_chance(q: u32, volume: u32) -> u32
     ensures { result ≡ chance_of (heat_probit_by standard q volume) }
 {

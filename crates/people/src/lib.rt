@@ -29,8 +29,10 @@ fn in_setting(setting: u8, chance: u32) -> u32
     }
 }
 
-// The chance by the probit of a fire.
+// The chance by the probit of a fire. Called, not inlined: in a loop over effects the compiler makes a branch of the probit's difference, which may lie below
+// nought, and no processor guesses it (docs/DESIGN-PASS.md).
 #[tactic(auto, unfolding(crate::specs::Death::fire_probit_by))]
+#[inline(never)]
 fn by_probit(constant: u32, q: u32, t: u32) -> u32
     ensures { result ≡ chance_of (fire_probit_by standard constant q t) }
 {

@@ -68,7 +68,7 @@ root_by_halves volume z = go (dec_le volume 10000)
     go (yes h) = root_found least_volumes volume _ right_volumes z h w.there w.low next
     go (no h) = root_beyond least_volumes volume _ right_volumes (omega arith) w.there next
 
--- ---- the table as it is searched: a volume's root by how many of the least volumes are at most the volume
+-- ---- the table as it is searched: the step of a volume by how many of the least volumes are at most the volume
 
 pub volumes_parted : (volume : ℕ) → IsPartitionedBy (λ y. leb y volume) least_volumes
 volumes_parted volume = IsPartitionedBy-leb (λ y. y) least_volumes volume (IsNonDecreasingBy-from_default (λ y. y) least_volumes 0 (rising least_volumes tt))
