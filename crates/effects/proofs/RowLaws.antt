@@ -1,4 +1,4 @@
--- The figures of a target after an effect, and a store of what stands at a place already. Assumes nothing.
+-- The figures of a target after an effect, a mark on no place of people, and a store of what stands at a place already. Assumes nothing.
 use mathlib.Core.Path.{◌≡◌, refl, sym, ◌∙◌, ap}
 use mathlib.Core.Bool.{true}
 use mathlib.Core.List.{List}

@@ -18,9 +18,9 @@ pub returns-then-e-ge-MOST_TARGETS : goal.returns-then-e-ge-MOST_TARGETS
 returns-then-e-ge-MOST_TARGETS c = past_added _ (people_judged _ _) _ _ _ _ _ _ _ c.if-e-ge-MOST_TARGETS.true
 
 -- no chance where no rule judges
-unwrapped : (chance : Option ℕ) → unwrap_or chance 0 ≡ (judgement chance).chance
-unwrapped (Some chance) = refl
-unwrapped None = refl
+chance_or_nought : (chance : Option ℕ) → unwrap_or chance 0 ≡ (judgement chance).chance
+chance_or_nought (Some chance) = refl
+chance_or_nought None = refl
 
 -- people are not marked
 pub returns-then-target-eq-PEOPLE : goal.returns-then-target-eq-PEOPLE
@@ -28,7 +28,7 @@ returns-then-target-eq-PEOPLE c =
     let j = c.effect-chance.ensures ∙ c.requires _ _ _ _ in
     let p = people_judged standard c.args.clock c.unpack_facts-target.result c.args.kind c.args.e.intensity c.args.e.duration c.if-target-eq-PEOPLE.true in
     added _ _ _ _ _ _ _ _ c.if-e-ge-MOST_TARGETS.false c.unpack_facts-target.ensures c.margin_after.ensures
-    (c.unwrap_or.ensures ∙ unwrapped c.effect-chance.result ∙ ap (λ (x : Judged). x.chance) j) (ap (λ x. pick x 0 1) (p ∙ ap (λ (x : Judged). x.judged) (c.requires _ _ _ _))) c.add_share.ensures
+    (c.unwrap_or.ensures ∙ chance_or_nought c.effect-chance.result ∙ ap (λ (x : Judged). x.chance) j) (ap (λ x. pick x 0 1) (p ∙ ap (λ (x : Judged). x.judged) (c.requires _ _ _ _))) c.add_share.ensures
     (people_unmarked c.args.rows.now.facts c.args.e.target _ c.args.b.leak c.unpack_facts-target.ensures c.if-target-eq-PEOPLE.true)
 
 pub returns-then-kind-eq-FLASH_FIRE : goal.returns-then-kind-eq-FLASH_FIRE
